@@ -1,0 +1,33 @@
+//! Want of memory.
+
+ghost use Rattle.ignite_types.specs.declared.memory.NoMemory.{NoMemory};
+
+use std::alloc::{AllocError, AllocFailed};
+use std::fmt;
+
+/// Want of memory: the one answer that a call may give at any time.
+#[derive(Clone, Copy, Debug, PartialEq, Eq)]
+pub struct NoMemory;
+
+/// What a call answers that takes memory and has no other cause to fail.
+pub type Mem<T> = Result<T, NoMemory>;
+
+impl fmt::Display for NoMemory {
+    fn fmt<W: fmt::Write>(&self, f: &mut fmt::Formatter<W>) -> fmt::Result {
+        write!(f, "no memory is left")
+    }
+}
+
+impl std::error::Error for NoMemory {}
+
+impl From<AllocError> for NoMemory {
+    fn from(_: AllocError) -> NoMemory {
+        NoMemory
+    }
+}
+
+impl<T: Drop> From<AllocFailed<T>> for NoMemory {
+    fn from(_: AllocFailed<T>) -> NoMemory {
+        NoMemory
+    }
+}
