@@ -1,2 +1,4 @@
+pub mod Names
 pub mod Padded
+pub mod Placement
 pub mod Texts

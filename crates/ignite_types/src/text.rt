@@ -1,6 +1,7 @@
 //! Keys and values.
 
 ghost use Rattle.std.specs.Prelude.{◌≡◌, ◌≤◌, length};
+ghost use Rattle.ignite_types.specs.Placement.{key_hash};
 ghost use Rattle.ignite_types.specs.Texts.{allows, first_bad, text_of, key_of, value_of};
 
 use crate::short_text::ShortText;
@@ -111,6 +112,17 @@ impl Key {
         ensures { result ≡ self.now.cache }
     {
         self.cache
+    }
+
+    /// The hash of its bytes, which places it among its cache's partitions.
+    pub fn hash(&self) -> u32
+        ensures { result ≡ key_hash self.now.text }
+    {
+        let mut hash = 0u32;
+        for byte in self.text.as_slice() {
+            hash = hash.wrapping_mul(31).wrapping_add(u32::from(*byte));
+        }
+        hash
     }
 
     /// Its bytes, without the cache.

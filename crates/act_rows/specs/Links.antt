@@ -1,0 +1,59 @@
+-- A node's inbox: for each sender a list of messages, the oldest first, and whether the link is held.
+use Rattle.std.specs.Prelude.{ℕ, Bool, true, false, List, [], ◌∷◌, ◌++◌, Option, Some, None, slice_get, drop, if◌then◌else◌, map}
+use Rattle.std.specs.Option.{option_and_then, option_map}
+use Rattle.ignite_types.specs.declared.message.Message.{Message}
+use Rattle.ignite_types.specs.declared.names.NodeId.{NodeId}
+use Rattle.ignite_types.specs.Names.{node_cmp}
+use Rattle.ordered_table.specs.Entries.{at, put}
+
+pub record Link : Type 0 where
+  pub held : Bool
+  pub messages : List Message
+
+-- links by sender; a closed inbox drops what is pushed
+pub record Inbox : Type 0 where
+  pub closed : Bool
+  pub links : List (NodeId × Link)
+
+abbrev pub with_link : Inbox → NodeId → Link → Inbox
+with_link inbox from link = record inbox { links = put node_cmp inbox.links from link }
+
+-- changes the link of a sender, where there is one
+abbrev pub on_link : Inbox → NodeId → (Link → Link) → Option Link → Inbox
+on_link inbox from f None = inbox
+on_link inbox from f (Some link) = with_link inbox from (f link)
+
+abbrev pub link_of : Inbox → NodeId → Option Link
+link_of inbox from = at node_cmp inbox.links from
+
+-- the empty inbox of a node, one link for each sender
+abbrev pub inbox_of : List NodeId → List (NodeId × Link)
+inbox_of [] = []
+inbox_of (from ∷ more) = put node_cmp (inbox_of more) from (record { held = false; messages = [] })
+
+abbrev pub new_inbox : List NodeId → Inbox
+new_inbox senders = record { closed = false; links = inbox_of senders }
+
+abbrev pub pushed : Inbox → NodeId → Message → Inbox
+pushed inbox from m = if inbox.closed then inbox
+    else on_link inbox from (λ link. record link { messages = link.messages ++ m ∷ [] }) (link_of inbox from)
+
+abbrev pub oldest : Inbox → NodeId → Option Message
+oldest inbox from = option_and_then (λ link. slice_get link.messages 0) (link_of inbox from)
+
+abbrev pub popped : Inbox → NodeId → Inbox
+popped inbox from = on_link inbox from (λ link. record link { messages = drop 1 link.messages }) (link_of inbox from)
+
+abbrev pub is_held : Inbox → NodeId → Bool
+is_held inbox from = elim (link_of inbox from) [ None ↦ false | Some link ↦ link.held ]
+
+abbrev pub with_hold : Inbox → NodeId → Bool → Inbox
+with_hold inbox from held = on_link inbox from (λ link. record link { held = held }) (link_of inbox from)
+
+-- a lost sender's messages are gone
+abbrev pub emptied : Inbox → NodeId → Inbox
+emptied inbox from = on_link inbox from (λ link. record link { messages = [] }) (link_of inbox from)
+
+-- the inbox of a lost node: empty and closed
+abbrev pub shut : Inbox → Inbox
+shut inbox = record { closed = true; links = map (λ e. (e.0, record e.1 { messages = [] })) inbox.links }

@@ -1,0 +1,238 @@
+-- What a starter does for its transactions: accesses, the commit's two phases, and the answers of the primaries.
+use Rattle.std.specs.Prelude.{ℕ, Bool, true, false, nat_le, List, [], ◌∷◌, length, Option, Some, None, if◌then◌else◌}
+use Rattle.ignite_types.specs.declared.answer.Answer.{Answer}
+use Rattle.ignite_types.specs.declared.answer.Answer.TheVariants as answer
+use Rattle.ignite_types.specs.declared.journal.Rec.TheVariants as note
+use Rattle.ignite_types.specs.declared.message.Message.TheVariants as msg
+use Rattle.ignite_types.specs.declared.message.Wanted.{Wanted}
+use Rattle.ignite_types.specs.declared.names.CacheVersion.{CacheVersion}
+use Rattle.ignite_types.specs.declared.names.NodeId.{NodeId}
+use Rattle.ignite_types.specs.declared.names.TopVer.{TopVer}
+use Rattle.ignite_types.specs.declared.names.TxId.{TxId}
+use Rattle.ignite_types.specs.declared.placement.PartMap.{PartMap}
+use Rattle.ignite_types.specs.declared.placement.Row.{Row}
+use Rattle.ignite_types.specs.declared.placement.Share.{Share}
+use Rattle.ignite_types.specs.declared.scenario.Command.{Command}
+use Rattle.ignite_types.specs.declared.scenario.Command.TheVariants as command
+use Rattle.ignite_types.specs.declared.text.Key.{Key}
+use Rattle.ignite_types.specs.Names.{key_cmp, node_cmp, share_cmp, tx_cmp, same_key, same_node}
+use Rattle.ignite_types.specs.Placement as placement
+use Rattle.ordered_set.specs.Members.{has, with_member, without_member}
+use Rattle.ordered_table.specs.Entries.{at, put, without}
+use Rattle.node_state.specs.declared.near.Read.{Read}
+use Rattle.node_state.specs.declared.near.TxEntry.{TxEntry}
+use Rattle.node_state.specs.declared.near.TxState.{TxState}
+use Rattle.node_state.specs.declared.near.TxState.TheVariants as state
+use Rattle.node_state.specs.declared.node.NodeState.{NodeState}
+use Rattle.node_state.specs.declared.session.Desk.{Desk}
+use Rattle.act_rows.specs.Steps.{sent, noting, desk_of, with_desk, entry_of, with_entry, answered, primary_of}
+
+-- the version of an absent entry
+abbrev pub absent_version : CacheVersion
+absent_version = record { top = record { major = 0; minor = 0 }; order = 0; node = record { 0 = 0 } }
+
+-- what is kept of a read: the value with its version, or that nothing was there
+abbrev pub read_of : Option (List ℕ × CacheVersion) → Read
+read_of None = record { found = None; ver = absent_version }
+read_of (Some (value, ver)) = record { found = Some value; ver = ver }
+
+abbrev pub found_by : Option Read → Option (List ℕ)
+found_by None = None
+found_by (Some read) = read.found
+
+abbrev pub written_or : Option (Option (List ℕ)) → Option Read → Option (List ℕ)
+written_or None read = found_by read
+written_or (Some new) read = new
+
+-- the value before an access: the transaction's own last write of the key, or else what it has read
+abbrev pub value_before : TxEntry → Key → Option (List ℕ)
+value_before entry key = written_or (at key_cmp entry.writes key) (at key_cmp entry.reads key)
+
+abbrev pub answer_of : Option (List ℕ) → Answer
+answer_of None = answer.Absent
+answer_of (Some value) = answer.Found value
+
+-- The shares of a transaction: for each touched partition each holder, with its primary.
+
+abbrev pub with_shares : List Share → List NodeId → NodeId → List Share
+with_shares shares [] primary = shares
+with_shares shares (holder ∷ more) primary =
+    with_shares (with_member share_cmp shares (record { holder = holder; primary = primary })) more primary
+
+abbrev pub with_row : List Share → Row → Option NodeId → List Share
+with_row shares row None = shares
+with_row shares row (Some primary) = with_shares shares (placement.holders row) primary
+
+abbrev pub with_row_of : List Share → Option Row → List Share
+with_row_of shares None = shares
+with_row_of shares (Some row) = with_row shares row (placement.first_owner row)
+
+abbrev pub shares_from : PartMap → List Share → List Key → List Share
+shares_from map shares [] = shares
+shares_from map shares (key ∷ keys) = shares_from map (with_row_of shares (placement.row_of map key)) keys
+
+abbrev pub shares_of : Option PartMap → List Key → List Share
+shares_of None keys = []
+shares_of (Some map) keys = shares_from map [] keys
+
+-- Prepare to each primary, with its own keys.
+
+abbrev pub is_at : NodeId → Option NodeId → Bool
+is_at node None = false
+is_at node (Some primary) = same_node node primary
+
+abbrev pub version_read : Option Read → Option CacheVersion
+version_read None = None
+version_read (Some read) = Some read.ver
+
+-- the primary's touched keys, each with the version that came with its read
+abbrev pub wanted_at : NodeState → TxEntry → NodeId → List Key → List Wanted
+wanted_at s entry node [] = []
+wanted_at s entry node (key ∷ keys) =
+    if is_at node (primary_of s key)
+    then record { key = key; had = version_read (at key_cmp entry.reads key) } ∷ wanted_at s entry node keys
+    else wanted_at s entry node keys
+
+-- the primary's written keys with their last writes
+abbrev pub writes_at : NodeState → NodeId → List (Key × Option (List ℕ)) → List (Key × Option (List ℕ))
+writes_at s node [] = []
+writes_at s node (w ∷ ws) =
+    if is_at node (primary_of s w.0) then w ∷ writes_at s node ws else writes_at s node ws
+
+abbrev pub prepares : NodeState → TxId → TopVer → TxEntry → List Share → List NodeId → NodeState
+prepares s tx top entry shares [] = s
+prepares s tx top entry shares (node ∷ more) =
+    prepares
+      (sent s node (msg.Prepare tx top entry.mode shares (wanted_at s entry node entry.keys) (writes_at s node entry.writes)))
+      tx top entry shares more
+
+-- Finish to each primary that was sent a Lock or a Prepare.
+abbrev pub finishes : NodeState → TxId → Bool → List NodeId → NodeState
+finishes s tx commit [] = s
+finishes s tx commit (node ∷ more) = finishes (sent s node (msg.Finish tx commit)) tx commit more
+
+abbrev pub decided_state : Bool → TxState
+decided_state true = state.Committing
+decided_state false = state.RollingBack
+
+-- what a session is answered when its transaction has ended
+abbrev pub closing_answer : TxState → Option Answer → Answer
+closing_answer _ (Some outcome) = outcome
+closing_answer state.Committing None = answer.Committed
+closing_answer _ None = answer.RolledBack
+
+-- the transaction has ended: its session's answer is ready, and the session has no transaction
+abbrev pub ended : NodeState → TxId → TxEntry → Desk → NodeState
+ended s tx entry desk =
+    with_desk (record s { txs = without tx_cmp s.txs tx }) tx.session
+      (record desk { tx = None; block = false; ready = Some (closing_answer entry.state entry.outcome) })
+
+-- the decision is noted, and each primary that knows of the transaction is told
+abbrev pub decides : NodeState → TxId → TxEntry → Bool → NodeState
+decides s tx entry commit =
+    finishes
+      (noting (with_entry s tx (record entry { state = decided_state commit; awaited = entry.asked })) (note.Decide tx commit))
+      tx commit entry.asked
+
+-- the commit's first phase; without keys the decision comes at once
+abbrev pub commits_with : NodeState → TxId → TopVer → TxEntry → List Key → NodeState
+commits_with s tx top entry [] = decides s tx entry true
+commits_with s tx top entry (key ∷ keys) =
+    prepares (with_entry s tx (record entry { state = state.Preparing; awaited = entry.asked })) tx top entry
+      (shares_of s.installed (key ∷ keys)) entry.asked
+
+abbrev pub commits : NodeState → TxId → TopVer → TxEntry → NodeState
+commits s tx top entry = commits_with s tx top entry entry.keys
+
+-- an access is done: in a block it is answered, a bare one is committed first
+abbrev pub access_done : NodeState → TxId → TopVer → TxEntry → Desk → Answer → NodeState
+access_done s tx top entry desk result = if desk.block
+    then answered (with_entry s tx entry) tx.session desk result
+    else commits s tx top (record entry { outcome = Some result })
+
+-- an access of a key that the transaction has touched
+abbrev pub known : NodeState → TxId → TopVer → TxEntry → Desk → Command → NodeState
+known s tx top entry desk (command.Get key) = access_done s tx top entry desk (answer_of (value_before entry key))
+known s tx top entry desk (command.Put key value) =
+    access_done s tx top (record entry { writes = put key_cmp entry.writes key (Some value) }) desk answer.Done
+known s tx top entry desk _ = s
+
+-- an access of a new key: its primary is asked for the lock
+abbrev pub locks : NodeState → TxId → TopVer → TxEntry → Key → NodeId → NodeState
+locks s tx top entry key primary =
+    sent
+      (with_entry s tx (record entry { keys = with_member key_cmp entry.keys key; asked = with_member node_cmp entry.asked primary; state = state.Waiting }))
+      primary (msg.Lock tx top key)
+
+-- the key's cache does not run: a block goes on, a bare access is rolled back
+abbrev pub no_cache : NodeState → TxId → TxEntry → Desk → Key → NodeState
+no_cache s tx entry desk key = if desk.block
+    then answered (with_entry s tx entry) tx.session desk (answer.NoCache key.cache)
+    else decides s tx (record entry { outcome = Some (answer.NoCache key.cache) }) false
+
+-- an access, by its key's primary: no cache, known, too many keys, or a lock
+abbrev pub accesses : NodeState → TxId → TopVer → TxEntry → Desk → Command → Key → Option NodeId → NodeState
+accesses s tx top entry desk command key None = no_cache s tx entry desk key
+accesses s tx top entry desk command key (Some primary) =
+    if has key_cmp entry.keys key then known s tx top entry desk command
+    else (if nat_le 64 (length entry.keys)
+      then answered (with_entry s tx entry) tx.session desk answer.TooManyKeys
+      else locks s tx top entry key primary)
+
+-- a command of a transaction whose version is fixed
+abbrev pub does : NodeState → TxId → TopVer → TxEntry → Desk → Command → NodeState
+does s tx top entry desk (command.Get key) = accesses s tx top entry desk (command.Get key) key (primary_of s key)
+does s tx top entry desk (command.Put key value) = accesses s tx top entry desk (command.Put key value) key (primary_of s key)
+does s tx top entry desk command.Commit = commits s tx top entry
+does s tx top entry desk _ = s
+
+-- LockOk: a read keeps the value, and the command that waits is done.
+
+abbrev pub locked : NodeState → TxId → TopVer → TxEntry → Desk → Key → Option (List ℕ × CacheVersion) → Option Command → NodeState
+locked s tx top entry desk key found (Some (command.Get wanted)) = if same_key wanted key
+    then known s tx top (record entry { state = state.Active; reads = put key_cmp entry.reads key (read_of found) }) desk (command.Get key)
+    else s
+locked s tx top entry desk key found (Some (command.Put wanted value)) = if same_key wanted key
+    then known s tx top (record entry { state = state.Active }) desk (command.Put key value)
+    else s
+locked s tx top entry desk key found _ = s
+
+abbrev pub locked_in : NodeState → TxId → TxEntry → Desk → Key → Option (List ℕ × CacheVersion) → TxState → Option TopVer → NodeState
+locked_in s tx entry desk key found state.Waiting (Some top) = locked s tx top entry desk key found desk.pending
+locked_in s tx entry desk key found _ _ = s
+
+abbrev pub locked_by : NodeState → TxId → Key → Option (List ℕ × CacheVersion) → Option TxEntry → Option Desk → NodeState
+locked_by s tx key found (Some entry) (Some desk) = locked_in s tx entry desk key found entry.state entry.top
+locked_by s tx key found _ _ = s
+
+-- LockOk, dropped where the transaction does not wait for this key any more
+abbrev pub lock_ok_row : NodeState → TxId → Key → Option (List ℕ × CacheVersion) → NodeState
+lock_ok_row s tx key found = locked_by s tx key found (entry_of s tx) (desk_of s tx.session)
+
+-- Prepared and Finished: the sender is no longer awaited in that phase.
+
+abbrev pub no_longer : NodeState → NodeId → TxId → TxEntry → NodeState
+no_longer s from tx entry = with_entry s tx (record entry { awaited = without_member node_cmp entry.awaited from })
+
+abbrev pub prepared_in : NodeState → NodeId → TxId → TxEntry → TxState → NodeState
+prepared_in s from tx entry state.Preparing = no_longer s from tx entry
+prepared_in s from tx entry _ = s
+
+abbrev pub prepared_by : NodeState → NodeId → TxId → Option TxEntry → NodeState
+prepared_by s from tx None = s
+prepared_by s from tx (Some entry) = prepared_in s from tx entry entry.state
+
+abbrev pub prepared_row : NodeState → NodeId → TxId → NodeState
+prepared_row s from tx = prepared_by s from tx (entry_of s tx)
+
+abbrev pub finished_in : NodeState → NodeId → TxId → TxEntry → TxState → NodeState
+finished_in s from tx entry state.Committing = no_longer s from tx entry
+finished_in s from tx entry state.RollingBack = no_longer s from tx entry
+finished_in s from tx entry _ = s
+
+abbrev pub finished_by : NodeState → NodeId → TxId → Option TxEntry → NodeState
+finished_by s from tx None = s
+finished_by s from tx (Some entry) = finished_in s from tx entry entry.state
+
+abbrev pub finished_row : NodeState → NodeId → TxId → NodeState
+finished_row s from tx = finished_by s from tx (entry_of s tx)
