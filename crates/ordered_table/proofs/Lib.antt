@@ -1,0 +1,4 @@
+mod Orders
+pub mod Ascending
+pub mod Laws
+mod Found
