@@ -1,3 +1,4 @@
+pub mod Affinity
 pub mod Names
 pub mod Padded
 pub mod Placement

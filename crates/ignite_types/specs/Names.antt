@@ -1,8 +1,8 @@
 -- The orders of names, versions and keys: each is compared field by field, the first field first.
-use Rattle.std.specs.Prelude.{Bool}
+use Rattle.std.specs.Prelude.{Bool, ◌==◌, ◌&&◌, nat_eq}
 use Rattle.std.specs.declared.cmp.Ordering.{Ordering}
-use Rattle.std.specs.Ordering.{nat_cmp, ordering_then, is_eq}
-use Rattle.std.specs.Cmp.Lexicographic.{slice_cmp}
+use Rattle.std.specs.Ordering.{nat_cmp, ordering_then}
+use Rattle.std.specs.Cmp.Lexicographic.{slice_cmp, pointwise}
 use Rattle.ignite_types.specs.declared.names.NodeId.{NodeId}
 use Rattle.ignite_types.specs.declared.names.TopVer.{TopVer}
 use Rattle.ignite_types.specs.declared.names.CacheVersion.{CacheVersion}
@@ -29,13 +29,13 @@ abbrev pub share_cmp : Share → Share → Ordering
 share_cmp a b = ordering_then (node_cmp a.holder b.holder) (node_cmp a.primary b.primary)
 
 abbrev pub same_node : NodeId → NodeId → Bool
-same_node a b = is_eq (node_cmp a b)
+same_node a b = a.0 == b.0
 
 abbrev pub same_top : TopVer → TopVer → Bool
-same_top a b = is_eq (top_cmp a b)
+same_top a b = (a.major == b.major) && (a.minor == b.minor)
 
 abbrev pub same_tx : TxId → TxId → Bool
-same_tx a b = is_eq (tx_cmp a b)
+same_tx a b = same_node a.node b.node && (a.session == b.session) && (a.number == b.number)
 
 abbrev pub same_key : Key → Key → Bool
-same_key a b = is_eq (key_cmp a b)
+same_key a b = (a.cache == b.cache) && pointwise nat_eq a.text b.text

@@ -1,0 +1,97 @@
+-- The world that a run begins with: version 1.0 is seen, installed and open at every node.
+use Rattle.std.specs.Prelude.{ℕ, zero, suc, ◌+◌, ◌-◌, ◌^◌, Bool, false, true, nat_lt, List, [], ◌∷◌, ◌++◌, Some, map, filter, length, if◌then◌else◌}
+use Rattle.std.specs.Ordering.{nat_cmp}
+use Rattle.ignite_types.specs.declared.names.NodeId.{NodeId}
+use Rattle.ignite_types.specs.declared.names.TopVer.{TopVer}
+use Rattle.ignite_types.specs.declared.placement.PartMap.{PartMap}
+use Rattle.ignite_types.specs.declared.placement.Row.{Row}
+use Rattle.ignite_types.specs.declared.scenario.Cache.{Cache}
+use Rattle.ignite_types.specs.declared.scenario.Item.{Item}
+use Rattle.ignite_types.specs.declared.scenario.Member.{Member}
+use Rattle.ignite_types.specs.declared.scenario.Scenario.{Scenario}
+use Rattle.ignite_types.specs.declared.scenario.Session.{Session}
+use Rattle.ignite_types.specs.Affinity.{opening_map}
+use Rattle.ignite_types.specs.Names.{same_node}
+use Rattle.ignite_types.specs.Placement.{capped}
+use Rattle.ordered_table.specs.Entries.{put}
+use Rattle.node_state.specs.declared.node.NodeState.{NodeState}
+use Rattle.node_state.specs.declared.session.Desk.{Desk}
+use Rattle.act_rows.specs.Commands.{new_desk}
+use Rattle.act_rows.specs.Links.{Inbox, new_inbox}
+use Rattle.act_rows.specs.Stores.{Copy}
+use Rattle.tx_model.specs.World.{World}
+
+-- the first topology version
+abbrev pub first_top : TopVer
+first_top = record { major = 1; minor = 0 }
+
+abbrev pub servers_of : List Member → List NodeId
+servers_of members = map (λ (m : Member). m.node) (filter (λ (m : Member). m.server) members)
+
+-- the numbers of the caches that run from the start, the first of these having this number
+abbrev pub running_from : ℕ → List Cache → List ℕ
+running_from number [] = []
+running_from number (cache ∷ caches) =
+    if cache.first then number ∷ running_from (capped number 1) caches else running_from (capped number 1) caches
+
+abbrev pub opening_map_of : Scenario → PartMap
+opening_map_of scenario =
+    opening_map first_top (servers_of scenario.nodes) scenario.caches (running_from 0 scenario.caches)
+
+-- the scripts of the sessions on a node, by the sessions' numbers, the first of these having this number
+abbrev pub scripts_on : NodeId → ℕ → List (ℕ × List Item) → List Session → List (ℕ × List Item)
+scripts_on id number scripts [] = scripts
+scripts_on id number scripts (session ∷ more) = scripts_on id (capped number 1)
+    (if same_node session.node id then put nat_cmp scripts number session.commands else scripts) more
+
+abbrev pub desks_on : NodeId → ℕ → List (ℕ × Desk) → List Session → List (ℕ × Desk)
+desks_on id number desks [] = desks
+desks_on id number desks (session ∷ more) = desks_on id (capped number 1)
+    (if same_node session.node id then put nat_cmp desks number new_desk else desks) more
+
+-- so many empty copies
+abbrev pub empty_copies : List Row → List Copy
+empty_copies rows = map (λ _. []) rows
+
+abbrev pub opening_node : Scenario → NodeId → NodeState
+opening_node scenario id = record {
+  me = id;
+  acts = 0;
+  seen = first_top;
+  opened = Some first_top;
+  installed = Some (opening_map_of scenario);
+  scripts = scripts_on id 1 [] scenario.sessions;
+  desks = desks_on id 1 [] scenario.sessions;
+  txs = [];
+  stores = empty_copies (opening_map_of scenario).rows;
+  queues = [];
+  order = 0;
+  shares = [];
+  outbox = [];
+  noted = []
+}
+
+-- the nodes' numbers, ascending
+abbrev pub id_in : List NodeId → NodeId → List NodeId
+id_in [] id = id ∷ []
+id_in (other ∷ more) id = if nat_lt id.0 other.0 then id ∷ other ∷ more else other ∷ id_in more id
+
+abbrev pub ids_from : List NodeId → List Member → List NodeId
+ids_from sorted [] = sorted
+ids_from sorted (member ∷ more) = ids_from (id_in sorted member.node) more
+
+abbrev pub ids_of : Scenario → List NodeId
+ids_of scenario = ids_from [] scenario.nodes
+
+abbrev pub homes_from : ℕ → List (ℕ × NodeId) → List Session → List (ℕ × NodeId)
+homes_from number homes [] = homes
+homes_from number homes (session ∷ more) = homes_from (capped number 1) (put nat_cmp homes number session.node) more
+
+-- the opening world of a scenario
+abbrev pub opening : Scenario → World
+opening scenario = record {
+  nodes = map (opening_node scenario) (ids_of scenario);
+  inboxes = map (λ _. new_inbox (ids_of scenario)) (ids_of scenario);
+  homes = homes_from 1 [] scenario.sessions;
+  broken = false
+}
