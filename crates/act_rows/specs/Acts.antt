@@ -67,7 +67,7 @@ send_act s = sends (begun s) (oldest_out s)
 -- whether the session may give a command, or be answered, or a message be sent
 
 abbrev pub may_call : NodeState → ℕ → Bool
-may_call s session = is_some (option_and_then (next_of s session) (desk_of s session))
+may_call s session = is_some (option_and_then next_of (desk_of s session))
 
 abbrev pub may_answer : NodeState → ℕ → Bool
 may_answer s session = is_some (option_and_then (λ (desk : Desk). desk.ready) (desk_of s session))

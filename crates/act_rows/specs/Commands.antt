@@ -18,7 +18,7 @@ use Rattle.node_state.specs.declared.near.TxEntry.{TxEntry}
 use Rattle.node_state.specs.declared.near.TxState.TheVariants as state
 use Rattle.node_state.specs.declared.node.NodeState.{NodeState}
 use Rattle.node_state.specs.declared.session.Desk.{Desk}
-use Rattle.act_rows.specs.Steps.{raised, noting, desk_of, with_desk, entry_of, with_entry, answered}
+use Rattle.act_rows.specs.Steps.{raised, noting, desk_of, on_desk, entry_of, with_entry, answered}
 use Rattle.act_rows.specs.NearSide.{does}
 
 -- a plain item is its own one command
@@ -30,83 +30,90 @@ plain _ = None
 abbrev pub next_command : List Item → ℕ → Option Command
 next_command script place = option_and_then plain (slice_get script place)
 
-abbrev pub script_of : NodeState → ℕ → List Item
-script_of s session = unwrap_or (at nat_cmp s.scripts session) []
+abbrev pub next_unless : Option Command → List Item → ℕ → Option Command
+next_unless None script place = next_command script place
+next_unless (Some pending) script place = None
 
 -- the command that the session would give next, where none is pending
-abbrev pub next_of : NodeState → ℕ → Desk → Option Command
-next_of s session desk = elim desk.pending [ None ↦ next_command (script_of s session) desk.place | Some _ ↦ None ]
+abbrev pub next_of : Desk → Option Command
+next_of desk = next_unless desk.pending desk.script desk.place
 
 -- a session's state before its first command
-abbrev pub new_desk : Desk
-new_desk = record { place = 0; pending = None; ready = None; block = false; tx = None; started = 0 }
+abbrev pub new_desk : List Item → Desk
+new_desk script = record { script = script; place = 0; pending = None; ready = None; block = false; tx = None; started = 0 }
 
 abbrev pub new_entry : Mode → TxEntry
 new_entry mode = record { mode = mode; top = None; state = state.Idle; keys = []; reads = []; writes = []; asked = []; awaited = []; outcome = None }
 
--- the name of the session's next transaction
-abbrev pub next_tx : NodeState → ℕ → Desk → TxId
-next_tx s session desk = record { node = s.me; session = session; number = raised desk.started }
+-- the name of the session's next transaction, after so many
+abbrev pub next_tx : NodeState → ℕ → ℕ → TxId
+next_tx s session started = record { node = s.me; session = session; number = raised started }
 
--- the desk with a new transaction, of a block or of one access
-abbrev pub starting : Desk → TxId → Bool → Desk
-starting desk tx block = record desk { tx = Some tx; block = block; started = tx.number }
+-- a new transaction, of a block or of one access
+abbrev pub opens : NodeState → TxId → Mode → Bool → NodeState
+opens s tx mode block = let known = with_entry s tx (new_entry mode) in
+    on_desk known tx.session (λ d. record d { tx = Some tx; block = block; started = tx.number }) (desk_of known tx.session)
 
 -- begin: a new block, unless a transaction is open
-abbrev pub begins : NodeState → ℕ → Desk → Mode → Option TxId → NodeState
-begins s session desk mode (Some tx) = answered s session desk answer.TransactionOpen
-begins s session desk mode None = let tx = next_tx s session desk in
-    answered (with_entry s tx (new_entry mode)) session (starting desk tx true) answer.Done
+abbrev pub begins : NodeState → ℕ → ℕ → Mode → Option TxId → NodeState
+begins s session started mode (Some tx) = answered s session answer.TransactionOpen
+begins s session started mode None = answered (opens s (next_tx s session started) mode true) session answer.Done
 
 -- a command of a transaction whose version is fixed is done at once; any other waits for the start
-abbrev pub does_if_started : NodeState → TxId → TxEntry → Desk → Command → Option TopVer → NodeState
-does_if_started s tx entry desk c None = s
-does_if_started s tx entry desk c (Some top) = does s tx top entry desk c
+abbrev pub does_if_started : NodeState → TxId → Bool → Command → Option TopVer → NodeState
+does_if_started s tx block c None = s
+does_if_started s tx block c (Some top) = does s tx top block c
 
-abbrev pub in_transaction : NodeState → TxId → Desk → Command → Option TxEntry → NodeState
-in_transaction s tx desk c None = s
-in_transaction s tx desk c (Some entry) = does_if_started s tx entry desk c entry.top
+abbrev pub in_transaction : NodeState → TxId → Bool → Command → Option TxEntry → NodeState
+in_transaction s tx block c None = s
+in_transaction s tx block c (Some entry) = does_if_started s tx block c entry.top
 
 -- an access: of the open transaction, or of a new one for itself
-abbrev pub access : NodeState → ℕ → Desk → Command → Option TxId → NodeState
-access s session desk c (Some tx) = in_transaction s tx desk c (entry_of s tx)
-access s session desk c None = let tx = next_tx s session desk in
-    with_desk (with_entry s tx (new_entry Pessimistic)) session (starting desk tx false)
+abbrev pub access : NodeState → ℕ → ℕ → Bool → Command → Option TxId → NodeState
+access s session started block c (Some tx) = in_transaction s tx block c (entry_of s tx)
+access s session started block c None = opens s (next_tx s session started) Pessimistic false
 
 -- commit: of the open transaction
-abbrev pub commit : NodeState → ℕ → Desk → Option TxId → NodeState
-commit s session desk (Some tx) = in_transaction s tx desk command.Commit (entry_of s tx)
-commit s session desk None = answered s session desk answer.NoTransaction
+abbrev pub commit : NodeState → ℕ → Bool → Option TxId → NodeState
+commit s session block (Some tx) = in_transaction s tx block command.Commit (entry_of s tx)
+commit s session block None = answered s session answer.NoTransaction
 
-abbrev pub command_row : NodeState → ℕ → Desk → Command → NodeState
-command_row s session desk (command.Begin mode timeout) = begins s session desk mode desk.tx
-command_row s session desk (command.Get key) = access s session desk (command.Get key) desk.tx
-command_row s session desk (command.Put key value) = access s session desk (command.Put key value) desk.tx
-command_row s session desk command.Commit = commit s session desk desk.tx
-command_row s session desk _ = s
+abbrev pub command_row : NodeState → ℕ → ℕ → Bool → Option TxId → Command → NodeState
+command_row s session started block tx (command.Begin mode timeout) = begins s session started mode tx
+command_row s session started block tx (command.Get key) = access s session started block (command.Get key) tx
+command_row s session started block tx (command.Put key value) = access s session started block (command.Put key value) tx
+command_row s session started block tx command.Commit = commit s session block tx
+command_row s session started block tx _ = s
+
+-- the command waits for its answer
+abbrev pub pends : NodeState → ℕ → Command → NodeState
+pends s session c = on_desk s session (λ d. record d { pending = Some c }) (desk_of s session)
 
 -- the command is noted and pending, and then its row is done
 abbrev pub takes : NodeState → ℕ → Desk → Option Command → NodeState
 takes s session desk None = s
-takes s session desk (Some c) = let taken = record desk { pending = Some c } in
-    command_row (noting (with_desk s session taken) (note.Call session c)) session taken c
+takes s session desk (Some c) = command_row (noting (pends s session c) (note.Call session c)) session desk.started desk.block desk.tx c
 
 abbrev pub takes_at : NodeState → ℕ → Option Desk → NodeState
 takes_at s session None = s
-takes_at s session (Some desk) = takes s session desk (next_of s session desk)
+takes_at s session (Some desk) = takes s session desk (next_of desk)
 
 -- the session gives its next command
 abbrev pub call_row : NodeState → ℕ → NodeState
 call_row s session = takes_at s session (desk_of s session)
 
-abbrev pub hands : NodeState → ℕ → Desk → Option Answer → NodeState
-hands s session desk None = s
-hands s session desk (Some a) =
-    noting (with_desk s session (record desk { place = raised desk.place; pending = None; ready = None })) (note.Answer session a)
+-- the pending command is answered
+abbrev pub hands_over : NodeState → ℕ → NodeState
+hands_over s session =
+    on_desk s session (λ d. record d { place = raised d.place; pending = None; ready = None }) (desk_of s session)
+
+abbrev pub hands : NodeState → ℕ → Option Answer → NodeState
+hands s session None = s
+hands s session (Some a) = noting (hands_over s session) (note.Answer session a)
 
 abbrev pub hands_at : NodeState → ℕ → Option Desk → NodeState
 hands_at s session None = s
-hands_at s session (Some desk) = hands s session desk desk.ready
+hands_at s session (Some desk) = hands s session desk.ready
 
 -- the ready answer of the session is handed out
 abbrev pub answer_row : NodeState → ℕ → NodeState

@@ -1,9 +1,10 @@
 -- What a starter does for its transactions: accesses, the commit's two phases, and the answers of the primaries.
-use Rattle.std.specs.Prelude.{ℕ, Bool, true, false, nat_le, List, [], ◌∷◌, length, Option, Some, None, if◌then◌else◌}
+use Rattle.std.specs.Prelude.{ℕ, Bool, true, false, nat_le, List, [], ◌∷◌, length, map, Option, Some, None, if◌then◌else◌}
 use Rattle.ignite_types.specs.declared.answer.Answer.{Answer}
 use Rattle.ignite_types.specs.declared.answer.Answer.TheVariants as answer
 use Rattle.ignite_types.specs.declared.journal.Rec.TheVariants as note
 use Rattle.ignite_types.specs.declared.message.Message.TheVariants as msg
+use Rattle.ignite_types.specs.declared.message.Out.{Out}
 use Rattle.ignite_types.specs.declared.message.Wanted.{Wanted}
 use Rattle.ignite_types.specs.declared.names.CacheVersion.{CacheVersion}
 use Rattle.ignite_types.specs.declared.names.NodeId.{NodeId}
@@ -25,7 +26,7 @@ use Rattle.node_state.specs.declared.near.TxState.{TxState}
 use Rattle.node_state.specs.declared.near.TxState.TheVariants as state
 use Rattle.node_state.specs.declared.node.NodeState.{NodeState}
 use Rattle.node_state.specs.declared.session.Desk.{Desk}
-use Rattle.act_rows.specs.Steps.{sent, noting, desk_of, with_desk, entry_of, with_entry, answered, primary_of}
+use Rattle.act_rows.specs.Steps.{sent, sent_all, noting, desk_of, on_desk, entry_of, on_entry, answered, primary_of}
 
 -- the version of an absent entry
 abbrev pub absent_version : CacheVersion
@@ -99,17 +100,48 @@ writes_at s node [] = []
 writes_at s node (w ∷ ws) =
     if is_at node (primary_of s w.0) then w ∷ writes_at s node ws else writes_at s node ws
 
-abbrev pub prepares : NodeState → TxId → TopVer → TxEntry → List Share → List NodeId → NodeState
-prepares s tx top entry shares [] = s
-prepares s tx top entry shares (node ∷ more) =
-    prepares
-      (sent s node (msg.Prepare tx top entry.mode shares (wanted_at s entry node entry.keys) (writes_at s node entry.writes)))
-      tx top entry shares more
+-- Prepare, to each of these primaries
+abbrev pub prepare_outs : NodeState → TxId → TopVer → TxEntry → List Share → List NodeId → List Out
+prepare_outs s tx top entry shares [] = []
+prepare_outs s tx top entry shares (node ∷ more) =
+    record { to = node; msg = msg.Prepare tx top entry.mode shares (wanted_at s entry node entry.keys) (writes_at s node entry.writes) }
+      ∷ prepare_outs s tx top entry shares more
 
--- Finish to each primary that was sent a Lock or a Prepare.
-abbrev pub finishes : NodeState → TxId → Bool → List NodeId → NodeState
-finishes s tx commit [] = s
-finishes s tx commit (node ∷ more) = finishes (sent s node (msg.Finish tx commit)) tx commit more
+-- Finish, to each of these primaries
+abbrev pub finish_outs : TxId → Bool → List NodeId → List Out
+finish_outs tx commit nodes = map (λ (node : NodeId). record { to = node; msg = msg.Finish tx commit }) nodes
+
+-- Small steps on a transaction's entry; nothing where there is none.
+
+abbrev pub keeps_read : NodeState → TxId → Key → Read → NodeState
+keeps_read s tx key read = on_entry s tx (λ e. record e { reads = put key_cmp e.reads key read }) (entry_of s tx)
+
+abbrev pub keeps_write : NodeState → TxId → Key → Option (List ℕ) → NodeState
+keeps_write s tx key new = on_entry s tx (λ e. record e { writes = put key_cmp e.writes key new }) (entry_of s tx)
+
+abbrev pub takes_state : NodeState → TxId → TxState → NodeState
+takes_state s tx st = on_entry s tx (λ e. record e { state = st }) (entry_of s tx)
+
+abbrev pub takes_outcome : NodeState → TxId → Answer → NodeState
+takes_outcome s tx a = on_entry s tx (λ e. record e { outcome = Some a }) (entry_of s tx)
+
+-- the key is touched, and its primary is asked for the lock
+abbrev pub touches : NodeState → TxId → Key → NodeId → NodeState
+touches s tx key primary =
+    on_entry s tx (λ e. record e { keys = with_member key_cmp e.keys key; asked = with_member node_cmp e.asked primary; state = state.Waiting }) (entry_of s tx)
+
+-- the topology version is fixed
+abbrev pub fixes_version : NodeState → TxId → TopVer → NodeState
+fixes_version s tx top = on_entry s tx (λ e. record e { top = Some top; state = state.Active }) (entry_of s tx)
+
+-- a phase begins, in which each primary that was asked is awaited
+abbrev pub begins_phase : NodeState → TxId → TxState → NodeState
+begins_phase s tx st = on_entry s tx (λ e. record e { state = st; awaited = e.asked }) (entry_of s tx)
+
+abbrev pub no_longer : NodeState → TxId → NodeId → NodeState
+no_longer s tx from = on_entry s tx (λ e. record e { awaited = without_member node_cmp e.awaited from }) (entry_of s tx)
+
+-- The end of a transaction.
 
 abbrev pub decided_state : Bool → TxState
 decided_state true = state.Committing
@@ -122,87 +154,94 @@ closing_answer state.Committing None = answer.Committed
 closing_answer _ None = answer.RolledBack
 
 -- the transaction has ended: its session's answer is ready, and the session has no transaction
-abbrev pub ended : NodeState → TxId → TxEntry → Desk → NodeState
-ended s tx entry desk =
-    with_desk (record s { txs = without tx_cmp s.txs tx }) tx.session
-      (record desk { tx = None; block = false; ready = Some (closing_answer entry.state entry.outcome) })
+abbrev pub ended : NodeState → TxId → Answer → NodeState
+ended s tx a = let gone = record s { txs = without tx_cmp s.txs tx } in
+    on_desk gone tx.session (λ d. record d { tx = None; block = false; ready = Some a }) (desk_of gone tx.session)
+
+abbrev pub decides_for : NodeState → TxId → Bool → Option TxEntry → NodeState
+decides_for s tx commit None = s
+decides_for s tx commit (Some entry) =
+    sent_all (noting (begins_phase s tx (decided_state commit)) (note.Decide tx commit)) (finish_outs tx commit entry.asked)
 
 -- the decision is noted, and each primary that knows of the transaction is told
-abbrev pub decides : NodeState → TxId → TxEntry → Bool → NodeState
-decides s tx entry commit =
-    finishes
-      (noting (with_entry s tx (record entry { state = decided_state commit; awaited = entry.asked })) (note.Decide tx commit))
-      tx commit entry.asked
+abbrev pub decides : NodeState → TxId → Bool → NodeState
+decides s tx commit = decides_for s tx commit (entry_of s tx)
 
 -- the commit's first phase; without keys the decision comes at once
 abbrev pub commits_with : NodeState → TxId → TopVer → TxEntry → List Key → NodeState
-commits_with s tx top entry [] = decides s tx entry true
+commits_with s tx top entry [] = decides s tx true
 commits_with s tx top entry (key ∷ keys) =
-    prepares (with_entry s tx (record entry { state = state.Preparing; awaited = entry.asked })) tx top entry
-      (shares_of s.installed (key ∷ keys)) entry.asked
+    sent_all (begins_phase s tx state.Preparing) (prepare_outs s tx top entry (shares_of s.installed (key ∷ keys)) entry.asked)
 
-abbrev pub commits : NodeState → TxId → TopVer → TxEntry → NodeState
-commits s tx top entry = commits_with s tx top entry entry.keys
+abbrev pub commits_for : NodeState → TxId → TopVer → Option TxEntry → NodeState
+commits_for s tx top None = s
+commits_for s tx top (Some entry) = commits_with s tx top entry entry.keys
+
+abbrev pub commits : NodeState → TxId → TopVer → NodeState
+commits s tx top = commits_for s tx top (entry_of s tx)
+
+-- Accesses.
 
 -- an access is done: in a block it is answered, a bare one is committed first
-abbrev pub access_done : NodeState → TxId → TopVer → TxEntry → Desk → Answer → NodeState
-access_done s tx top entry desk result = if desk.block
-    then answered (with_entry s tx entry) tx.session desk result
-    else commits s tx top (record entry { outcome = Some result })
+abbrev pub access_done : NodeState → TxId → TopVer → Bool → Answer → NodeState
+access_done s tx top block result = if block
+    then answered s tx.session result
+    else commits (takes_outcome s tx result) tx top
+
+abbrev pub value_at : Option TxEntry → Key → Option (List ℕ)
+value_at None key = None
+value_at (Some entry) key = value_before entry key
 
 -- an access of a key that the transaction has touched
-abbrev pub known : NodeState → TxId → TopVer → TxEntry → Desk → Command → NodeState
-known s tx top entry desk (command.Get key) = access_done s tx top entry desk (answer_of (value_before entry key))
-known s tx top entry desk (command.Put key value) =
-    access_done s tx top (record entry { writes = put key_cmp entry.writes key (Some value) }) desk answer.Done
-known s tx top entry desk _ = s
-
--- an access of a new key: its primary is asked for the lock
-abbrev pub locks : NodeState → TxId → TopVer → TxEntry → Key → NodeId → NodeState
-locks s tx top entry key primary =
-    sent
-      (with_entry s tx (record entry { keys = with_member key_cmp entry.keys key; asked = with_member node_cmp entry.asked primary; state = state.Waiting }))
-      primary (msg.Lock tx top key)
+abbrev pub known : NodeState → TxId → TopVer → Bool → Command → NodeState
+known s tx top block (command.Get key) = access_done s tx top block (answer_of (value_at (entry_of s tx) key))
+known s tx top block (command.Put key value) = access_done (keeps_write s tx key (Some value)) tx top block answer.Done
+known s tx top block _ = s
 
 -- the key's cache does not run: a block goes on, a bare access is rolled back
-abbrev pub no_cache : NodeState → TxId → TxEntry → Desk → Key → NodeState
-no_cache s tx entry desk key = if desk.block
-    then answered (with_entry s tx entry) tx.session desk (answer.NoCache key.cache)
-    else decides s tx (record entry { outcome = Some (answer.NoCache key.cache) }) false
+abbrev pub no_cache : NodeState → TxId → Bool → Key → NodeState
+no_cache s tx block key = if block
+    then answered s tx.session (answer.NoCache key.cache)
+    else decides (takes_outcome s tx (answer.NoCache key.cache)) tx false
 
--- an access, by its key's primary: no cache, known, too many keys, or a lock
-abbrev pub accesses : NodeState → TxId → TopVer → TxEntry → Desk → Command → Key → Option NodeId → NodeState
-accesses s tx top entry desk command key None = no_cache s tx entry desk key
-accesses s tx top entry desk command key (Some primary) =
-    if has key_cmp entry.keys key then known s tx top entry desk command
-    else (if nat_le 64 (length entry.keys)
-      then answered (with_entry s tx entry) tx.session desk answer.TooManyKeys
-      else locks s tx top entry key primary)
+-- an access of a key that is new to the transaction: too many keys, or its primary is asked for the lock
+abbrev pub new_key : NodeState → TxId → TopVer → Key → NodeId → ℕ → NodeState
+new_key s tx top key primary count = if nat_le 64 count
+    then answered s tx.session answer.TooManyKeys
+    else sent (touches s tx key primary) primary (msg.Lock tx top key)
 
--- a command of a transaction whose version is fixed
-abbrev pub does : NodeState → TxId → TopVer → TxEntry → Desk → Command → NodeState
-does s tx top entry desk (command.Get key) = accesses s tx top entry desk (command.Get key) key (primary_of s key)
-does s tx top entry desk (command.Put key value) = accesses s tx top entry desk (command.Put key value) key (primary_of s key)
-does s tx top entry desk command.Commit = commits s tx top entry
-does s tx top entry desk _ = s
+-- an access of a transaction whose version is fixed, by its key's primary
+abbrev pub accesses : NodeState → TxId → TopVer → Bool → Command → Key → Option NodeId → Option TxEntry → NodeState
+accesses s tx top block c key _ None = s
+accesses s tx top block c key None (Some entry) = no_cache s tx block key
+accesses s tx top block c key (Some primary) (Some entry) = if has key_cmp entry.keys key
+    then known s tx top block c
+    else new_key s tx top key primary (length entry.keys)
+
+-- a command of a transaction whose version is fixed, in a block or bare
+abbrev pub does : NodeState → TxId → TopVer → Bool → Command → NodeState
+does s tx top block (command.Get key) = accesses s tx top block (command.Get key) key (primary_of s key) (entry_of s tx)
+does s tx top block (command.Put key value) = accesses s tx top block (command.Put key value) key (primary_of s key) (entry_of s tx)
+does s tx top block command.Commit = commits s tx top
+does s tx top block _ = s
 
 -- LockOk: a read keeps the value, and the command that waits is done.
 
-abbrev pub locked : NodeState → TxId → TopVer → TxEntry → Desk → Key → Option (List ℕ × CacheVersion) → Option Command → NodeState
-locked s tx top entry desk key found (Some (command.Get wanted)) = if same_key wanted key
-    then known s tx top (record entry { state = state.Active; reads = put key_cmp entry.reads key (read_of found) }) desk (command.Get key)
+abbrev pub locked : NodeState → TxId → TopVer → Bool → Key → Option (List ℕ × CacheVersion) → Option Command → NodeState
+locked s tx top block key found (Some (command.Get wanted)) = if same_key wanted key
+    then known (keeps_read (takes_state s tx state.Active) tx key (read_of found)) tx top block (command.Get key)
     else s
-locked s tx top entry desk key found (Some (command.Put wanted value)) = if same_key wanted key
-    then known s tx top (record entry { state = state.Active }) desk (command.Put key value)
+locked s tx top block key found (Some (command.Put wanted value)) = if same_key wanted key
+    then known (takes_state s tx state.Active) tx top block (command.Put key value)
     else s
-locked s tx top entry desk key found _ = s
+locked s tx top block key found _ = s
 
-abbrev pub locked_in : NodeState → TxId → TxEntry → Desk → Key → Option (List ℕ × CacheVersion) → TxState → Option TopVer → NodeState
-locked_in s tx entry desk key found state.Waiting (Some top) = locked s tx top entry desk key found desk.pending
-locked_in s tx entry desk key found _ _ = s
+abbrev pub locked_in : NodeState → TxId → Desk → Key → Option (List ℕ × CacheVersion) → TxState → Option TopVer → NodeState
+locked_in s tx desk key found state.Waiting (Some top) = locked s tx top desk.block key found desk.pending
+locked_in s tx desk key found _ _ = s
 
 abbrev pub locked_by : NodeState → TxId → Key → Option (List ℕ × CacheVersion) → Option TxEntry → Option Desk → NodeState
-locked_by s tx key found (Some entry) (Some desk) = locked_in s tx entry desk key found entry.state entry.top
+locked_by s tx key found (Some entry) (Some desk) = locked_in s tx desk key found entry.state entry.top
 locked_by s tx key found _ _ = s
 
 -- LockOk, dropped where the transaction does not wait for this key any more
@@ -211,28 +250,25 @@ lock_ok_row s tx key found = locked_by s tx key found (entry_of s tx) (desk_of s
 
 -- Prepared and Finished: the sender is no longer awaited in that phase.
 
-abbrev pub no_longer : NodeState → NodeId → TxId → TxEntry → NodeState
-no_longer s from tx entry = with_entry s tx (record entry { awaited = without_member node_cmp entry.awaited from })
-
-abbrev pub prepared_in : NodeState → NodeId → TxId → TxEntry → TxState → NodeState
-prepared_in s from tx entry state.Preparing = no_longer s from tx entry
-prepared_in s from tx entry _ = s
+abbrev pub prepared_in : NodeState → NodeId → TxId → TxState → NodeState
+prepared_in s from tx state.Preparing = no_longer s tx from
+prepared_in s from tx _ = s
 
 abbrev pub prepared_by : NodeState → NodeId → TxId → Option TxEntry → NodeState
 prepared_by s from tx None = s
-prepared_by s from tx (Some entry) = prepared_in s from tx entry entry.state
+prepared_by s from tx (Some entry) = prepared_in s from tx entry.state
 
 abbrev pub prepared_row : NodeState → NodeId → TxId → NodeState
 prepared_row s from tx = prepared_by s from tx (entry_of s tx)
 
-abbrev pub finished_in : NodeState → NodeId → TxId → TxEntry → TxState → NodeState
-finished_in s from tx entry state.Committing = no_longer s from tx entry
-finished_in s from tx entry state.RollingBack = no_longer s from tx entry
-finished_in s from tx entry _ = s
+abbrev pub finished_in : NodeState → NodeId → TxId → TxState → NodeState
+finished_in s from tx state.Committing = no_longer s tx from
+finished_in s from tx state.RollingBack = no_longer s tx from
+finished_in s from tx _ = s
 
 abbrev pub finished_by : NodeState → NodeId → TxId → Option TxEntry → NodeState
 finished_by s from tx None = s
-finished_by s from tx (Some entry) = finished_in s from tx entry entry.state
+finished_by s from tx (Some entry) = finished_in s from tx entry.state
 
 abbrev pub finished_row : NodeState → NodeId → TxId → NodeState
 finished_row s from tx = finished_by s from tx (entry_of s tx)

@@ -1,7 +1,8 @@
 -- A primary's part in both phases: Prepare, Finish and what follows when no answer is awaited any more.
-use Rattle.std.specs.Prelude.{ℕ, ◌+◌, Bool, true, false, ◌&&◌, nat_lt, ◌==◌, List, [], ◌∷◌, length, Option, Some, None, if◌then◌else◌}
+use Rattle.std.specs.Prelude.{ℕ, ◌+◌, Bool, true, false, ◌&&◌, nat_lt, ◌==◌, List, [], ◌∷◌, length, map, Option, Some, None, if◌then◌else◌}
 use Rattle.ignite_types.specs.declared.journal.Rec.TheVariants as note
 use Rattle.ignite_types.specs.declared.message.Message.TheVariants as msg
+use Rattle.ignite_types.specs.declared.message.Out.{Out}
 use Rattle.ignite_types.specs.declared.message.Stored.{Stored}
 use Rattle.ignite_types.specs.declared.names.NodeId.{NodeId}
 use Rattle.ignite_types.specs.declared.names.TopVer.{TopVer}
@@ -15,7 +16,7 @@ use Rattle.ordered_set.specs.Members.{with_member}
 use Rattle.ordered_table.specs.Entries.{at, put, without}
 use Rattle.node_state.specs.declared.node.NodeState.{NodeState}
 use Rattle.node_state.specs.declared.primary.OwnShare.{OwnShare}
-use Rattle.act_rows.specs.Steps.{raised, sent, noting, share_of, with_share}
+use Rattle.act_rows.specs.Steps.{raised, sent, sent_all, noting, share_of, with_share, on_share}
 use Rattle.act_rows.specs.Stores.{stored}
 use Rattle.act_rows.specs.Locks.{keys_of, released_all}
 
@@ -62,23 +63,24 @@ applied_all s tx top [] = s
 applied_all s tx top (w ∷ ws) =
     applied_all (noting (stored s w) (note.Apply tx top s.me w.key w.value w.ver)) tx top ws
 
-abbrev pub committed_by : NodeState → NodeId → TxId → OwnShare → NodeState
-committed_by s from tx share =
-    with_share (applied_all s tx share.top share.writes) tx (record share { state = Committed; askers = from ∷ [] })
+-- a finish begins: the share takes this state, and the node that asked is kept
+abbrev pub begins_finish : NodeState → TxId → ShareState → NodeId → NodeState
+begins_finish s tx state from = on_share s tx (λ share. record share { state = state; askers = from ∷ [] }) (share_of s tx)
 
-abbrev pub undone_by : NodeState → NodeId → TxId → OwnShare → NodeState
-undone_by s from tx share = with_share s tx (record share { state = Undoing; askers = from ∷ [] })
+-- one more node asked for the finish in work
+abbrev pub adds_asker : NodeState → TxId → NodeId → NodeState
+adds_asker s tx from = on_share s tx (λ share. record share { askers = with_member node_cmp share.askers from }) (share_of s tx)
 
 -- Finish where no finish is in work, by the share's state
 abbrev pub finishing : NodeState → NodeId → TxId → Bool → OwnShare → ShareState → NodeState
-finishing s from tx true share Prepared = committed_by s from tx share
-finishing s from tx false share Prepared = undone_by s from tx share
-finishing s from tx false share Preparing = undone_by s from tx share
+finishing s from tx true share Prepared = begins_finish (applied_all s tx share.top share.writes) tx Committed from
+finishing s from tx false share Prepared = begins_finish s tx Undoing from
+finishing s from tx false share Preparing = begins_finish s tx Undoing from
 finishing s from tx _ share _ = sent s from (msg.Finished tx)
 
 abbrev pub finish_at : NodeState → NodeId → TxId → Bool → OwnShare → List NodeId → NodeState
 finish_at s from tx commit share [] = finishing s from tx commit share share.state
-finish_at s from tx commit share (asker ∷ more) = with_share s tx (record share { askers = with_member node_cmp (asker ∷ more) from })
+finish_at s from tx commit share (asker ∷ more) = adds_asker s tx from
 
 abbrev pub finish_of : NodeState → NodeId → TxId → Bool → Option OwnShare → NodeState
 finish_of s from tx commit None = sent (released_all s tx (keys_of s.queues tx)) from (msg.Finished tx)
@@ -88,23 +90,31 @@ finish_of s from tx commit (Some share) = finish_at s from tx commit share share
 abbrev pub finish_row : NodeState → NodeId → TxId → Bool → NodeState
 finish_row s from tx commit = finish_of s from tx commit (share_of s tx)
 
-abbrev pub finished_to : NodeState → TxId → List NodeId → NodeState
-finished_to s tx [] = s
-finished_to s tx (to ∷ more) = finished_to (sent s to (msg.Finished tx)) tx more
+-- Finished, to each node that asked
+abbrev pub finished_outs : TxId → List NodeId → List Out
+finished_outs tx nodes = map (λ (node : NodeId). record { to = node; msg = msg.Finished tx }) nodes
+
+-- no finish is in work any more
+abbrev pub ends_finish : NodeState → TxId → NodeState
+ends_finish s tx = on_share s tx (λ share. record share { askers = [] }) (share_of s tx)
 
 -- a finished share stays as Committed, or is dropped
-abbrev pub share_after : NodeState → TxId → OwnShare → ShareState → NodeState
-share_after s tx share Undoing = record s { shares = without tx_cmp s.shares tx }
-share_after s tx share _ = with_share s tx (record share { askers = [] })
+abbrev pub share_after : NodeState → TxId → ShareState → NodeState
+share_after s tx Undoing = record s { shares = without tx_cmp s.shares tx }
+share_after s tx _ = ends_finish s tx
 
 -- the end of a finish: the places are left, and each node that asked is told
 abbrev pub finish_over : NodeState → TxId → OwnShare → NodeState
 finish_over s tx share =
-    finished_to (share_after (released_all s tx (keys_of s.queues tx)) tx share share.state) tx share.askers
+    sent_all (share_after (released_all s tx (keys_of s.queues tx)) tx share.state) (finished_outs tx share.askers)
+
+-- the share is prepared
+abbrev pub is_prepared : NodeState → TxId → NodeState
+is_prepared s tx = on_share s tx (λ share. record share { state = Prepared }) (share_of s tx)
 
 -- a share goes on once no answer is awaited: it is prepared, or its finish is over
 abbrev pub goes_on : NodeState → TxId → OwnShare → List NodeId → ShareState → NodeState
-goes_on s tx share [] Preparing = sent (with_share s tx (record share { state = Prepared })) tx.node (msg.Prepared tx)
+goes_on s tx share [] Preparing = sent (is_prepared s tx) tx.node (msg.Prepared tx)
 goes_on s tx share [] _ = s
 goes_on s tx share (asker ∷ more) _ = finish_over s tx share
 

@@ -5,6 +5,7 @@ use Rattle.std.specs.Ordering.{nat_cmp}
 use Rattle.ignite_types.specs.declared.answer.Answer.{Answer}
 use Rattle.ignite_types.specs.declared.journal.Rec.{Rec}
 use Rattle.ignite_types.specs.declared.message.Message.{Message}
+use Rattle.ignite_types.specs.declared.message.Out.{Out}
 use Rattle.ignite_types.specs.declared.names.NodeId.{NodeId}
 use Rattle.ignite_types.specs.declared.names.TxId.{TxId}
 use Rattle.ignite_types.specs.declared.text.Key.{Key}
@@ -24,6 +25,10 @@ raised n = min (n + 1) (2 ^ 64 - 1)
 abbrev pub sent : NodeState → NodeId → Message → NodeState
 sent s to msg = record s { outbox = s.outbox ++ record { to = to; msg = msg } ∷ [] }
 
+-- puts messages into the outbox
+abbrev pub sent_all : NodeState → List Out → NodeState
+sent_all s outs = record s { outbox = s.outbox ++ outs }
+
 -- notes a record
 abbrev pub noting : NodeState → Rec → NodeState
 noting s rec = record s { noted = s.noted ++ rec ∷ [] }
@@ -34,11 +39,21 @@ desk_of s session = at nat_cmp s.desks session
 abbrev pub with_desk : NodeState → ℕ → Desk → NodeState
 with_desk s session desk = record s { desks = put nat_cmp s.desks session desk }
 
+-- changes a session's desk, where there is one
+abbrev pub on_desk : NodeState → ℕ → (Desk → Desk) → Option Desk → NodeState
+on_desk s session f None = s
+on_desk s session f (Some desk) = with_desk s session (f desk)
+
 abbrev pub entry_of : NodeState → TxId → Option TxEntry
 entry_of s tx = at tx_cmp s.txs tx
 
 abbrev pub with_entry : NodeState → TxId → TxEntry → NodeState
 with_entry s tx entry = record s { txs = put tx_cmp s.txs tx entry }
+
+-- changes a transaction's entry, where there is one
+abbrev pub on_entry : NodeState → TxId → (TxEntry → TxEntry) → Option TxEntry → NodeState
+on_entry s tx f None = s
+on_entry s tx f (Some entry) = with_entry s tx (f entry)
 
 abbrev pub share_of : NodeState → TxId → Option OwnShare
 share_of s tx = at tx_cmp s.shares tx
@@ -46,9 +61,14 @@ share_of s tx = at tx_cmp s.shares tx
 abbrev pub with_share : NodeState → TxId → OwnShare → NodeState
 with_share s tx share = record s { shares = put tx_cmp s.shares tx share }
 
+-- changes an own share, where there is one
+abbrev pub on_share : NodeState → TxId → (OwnShare → OwnShare) → Option OwnShare → NodeState
+on_share s tx f None = s
+on_share s tx f (Some share) = with_share s tx (f share)
+
 -- makes the answer of a session's pending command ready
-abbrev pub answered : NodeState → ℕ → Desk → Answer → NodeState
-answered s session desk answer = with_desk s session (record desk { ready = Some answer })
+abbrev pub answered : NodeState → ℕ → Answer → NodeState
+answered s session a = on_desk s session (λ d. record d { ready = Some a }) (desk_of s session)
 
 -- the key's primary by the installed map
 abbrev pub primary_of : NodeState → Key → Option NodeId

@@ -3,7 +3,7 @@
 use crate::near::TxEntry;
 use crate::primary::{OwnShare, Store};
 use crate::session::Desk;
-use ignite_types::{Item, Key, List, NodeId, Out, PartMap, Rec, TopVer, TxId};
+use ignite_types::{Key, List, NodeId, Out, PartMap, Rec, TopVer, TxId};
 use ordered_table::Table;
 
 /// A node's state. The protocol's rows are functions on it.
@@ -17,8 +17,7 @@ pub struct NodeState {
     /// The last version that was opened here.
     pub opened: Option<TopVer>,
     pub installed: Option<PartMap>,
-    /// The scripts of the node's sessions, by their number.
-    pub scripts: Table<u32, List<Item>>,
+    /// The node's sessions, by their number.
     pub desks: Table<u32, Desk>,
     /// The transactions that were started here and have not ended.
     pub txs: Table<TxId, TxEntry>,

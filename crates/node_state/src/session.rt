@@ -1,12 +1,13 @@
 //! What a node keeps of a session.
 
-use ignite_types::{Answer, Command, TxId};
+use ignite_types::{Answer, Command, Item, List, TxId};
 
-/// How far a session has come in its script.
-#[derive(Clone, Copy, Debug, PartialEq, Eq)]
+/// A session and how far it has come in its script.
+#[derive(Debug, Drop)]
 pub struct Desk {
+    pub script: List<Item>,
     /// How many commands were answered: the place, from 0, of the next one.
-    pub place: usize,
+    pub place: u64,
     /// The command that was given and is not answered yet.
     pub pending: Option<Command>,
     /// Its answer, once it is ready to be handed out.

@@ -38,16 +38,11 @@ abbrev pub opening_map_of : Scenario → PartMap
 opening_map_of scenario =
     opening_map first_top (servers_of scenario.nodes) scenario.caches (running_from 0 scenario.caches)
 
--- the scripts of the sessions on a node, by the sessions' numbers, the first of these having this number
-abbrev pub scripts_on : NodeId → ℕ → List (ℕ × List Item) → List Session → List (ℕ × List Item)
-scripts_on id number scripts [] = scripts
-scripts_on id number scripts (session ∷ more) = scripts_on id (capped number 1)
-    (if same_node session.node id then put nat_cmp scripts number session.commands else scripts) more
-
+-- the sessions on a node, by their numbers, the first of these having this number
 abbrev pub desks_on : NodeId → ℕ → List (ℕ × Desk) → List Session → List (ℕ × Desk)
 desks_on id number desks [] = desks
 desks_on id number desks (session ∷ more) = desks_on id (capped number 1)
-    (if same_node session.node id then put nat_cmp desks number new_desk else desks) more
+    (if same_node session.node id then put nat_cmp desks number (new_desk session.commands) else desks) more
 
 -- so many empty copies
 abbrev pub empty_copies : List Row → List Copy
@@ -60,7 +55,6 @@ opening_node scenario id = record {
   seen = first_top;
   opened = Some first_top;
   installed = Some (opening_map_of scenario);
-  scripts = scripts_on id 1 [] scenario.sessions;
   desks = desks_on id 1 [] scenario.sessions;
   txs = [];
   stores = empty_copies (opening_map_of scenario).rows;

@@ -142,13 +142,13 @@ abbrev pub possible : World → List Event
 possible w = filter (enabled w) (candidates w)
 
 -- no command is pending and none is left
-abbrev pub desk_over : NodeState → ℕ → Option Desk → Bool
-desk_over node session None = true
-desk_over node session (Some desk) = is_none desk.pending && is_none (next_of node session desk)
+abbrev pub desk_over : Option Desk → Bool
+desk_over None = true
+desk_over (Some desk) = is_none desk.pending && is_none (next_of desk)
 
 abbrev pub session_over : Option NodeState → ℕ → Bool
 session_over None session = true
-session_over (Some node) session = desk_over node session (desk_of node session)
+session_over (Some node) session = desk_over (desk_of node session)
 
 -- every session is at the end of its script
 abbrev pub all_over : World → Bool
