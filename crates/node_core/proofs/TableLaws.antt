@@ -7,7 +7,7 @@ use Rattle.std.proofs.lemmas.Cmp.{nat_cmp_total, nat_list_cmp_total}
 use Rattle.ignite_types.specs.declared.names.TxId.{TxId}
 use Rattle.ignite_types.specs.declared.text.Key.{Key}
 use Rattle.ignite_types.specs.Names.{tx_cmp, key_cmp}
-use Rattle.ordered_table.specs.Entries.{at, put}
+use Rattle.ordered_table.specs.Entries.{at, put, without}
 use Rattle.ordered_table.proofs.Laws as laws
 
 pub tx_total : IsTotalOrder tx_cmp
@@ -35,3 +35,6 @@ nat_put_put es k v w = laws.put_put nat_cmp nat_cmp_total es k v w
 
 pub nat_put_there : {V : Type 0} (es : List (ℕ × V)) (k : ℕ) (v : V) → IsSome (at nat_cmp (put nat_cmp es k v) k)
 nat_put_there es k v = laws.put_there nat_cmp nat_cmp_total es k v
+
+pub key_without_put : {V : Type 0} (es : List (Key × V)) (k : Key) (v : V) → without key_cmp (put key_cmp es k v) k ≡ without key_cmp es k
+key_without_put es k v = laws.without_put key_cmp key_total es k v

@@ -1,9 +1,9 @@
 //! A node: its rows over its state, and its acts. After each call the state is the one that the protocol defines.
 #![tactic(auto)]
 
-
+mod locks;
 mod node;
 mod steps;
-
+mod stores;
 
 pub use node::Node;
