@@ -1,7 +1,6 @@
 //! A source and a sink over memory, whose failing calls are chosen beforehand.
 
-ghost use Rattle.std.specs.Prelude.{◌≡◌, ◌<◌, ◌≤◌, [], length, take, is_some, Some, IfOk, OnErr};
-ghost use Rattle.std.specs.Io.KnownBytes.{prepend_known, append_known, IsAtEnd};
+ghost use Rattle.std.specs.Prelude.{◌≡◌, ◌≤◌, [], length, take, Some, IfOk, OnErr};
 ghost use Rattle.host_io.specs.Faults.{Faulted};
 ghost use Rattle.host_io.specs.Plan.{fresh_plan};
 ghost use Rattle.host_io.specs.Memory.{take_answer, after_take, put_answer, after_put};
@@ -95,7 +94,7 @@ impl Model for MemSink {
 
 impl MemSink {
     /// An empty sink with room for `room` bytes in all, which it reserves, and whose calls with these
-    /// numbers fail.
+    /// numbers fail. It is `NoMemory` where the room cannot be reserved.
     pub fn new(alloc: Global, room: usize, fails: Vec<u64>) -> Mem<MemSink>
         ensures { IfOk result (λ sink. sink ≡ record { held = []; room = room; plan = fresh_plan fails.items }) }
     {

@@ -20,7 +20,7 @@ pub trait Sink {
     /// least one.
     fn put(&mut self, bytes: &[u8]) -> Result<usize, Failed>
         ensures fits { IfOk result (λ n. n ≤ length bytes.now) }
-        ensures some { IfOk result (λ n. 0 < length bytes.now → 0 < n) }
+        ensures progress { IfOk result (λ n. 0 < length bytes.now → 0 < n) }
         ensures appended { IfOk result (λ n. held self.new ≡ append_known (held self.old) (take n bytes.now)) }
         ensures unchanged { OnErr result (held self.new ≡ held self.old) }
         ensures failed { OnErr result (Faulted (faults self.old) (faults self.new)) }
@@ -28,8 +28,10 @@ pub trait Sink {
         ensures tells { is_some (held self.new) ≡ is_some (held self.old) };
 }
 
-/// Puts all the bytes, by as many calls of `put` as the sink wants. After an error the sink has taken
-/// some of them at the front, and not all.
+/// Puts all the bytes, by as many calls of `put` as the sink wants. It takes no memory.
+///
+/// It is `Failed` where a call of `put` is. The sink has then taken some of the bytes at the front, and
+/// not all.
 pub fn write_all<K: Sink>(sink: &mut K, bytes: &[u8]) -> Result<(), Failed>
     ensures all { OnOk result (K.held sink.new ≡ append_known (K.held sink.old) bytes.now) }
     ensures part { OnErr result (AppendsPart (K.held sink.old) (K.held sink.new) bytes.now) }

@@ -129,7 +129,8 @@ fn append_piece<S: Source>(
 
 /// All bytes that are left, if they are at most `limit`.
 ///
-/// It takes no byte past the one that is too many. After an error what was taken is lost.
+/// It is `Fault` where the source fails, `TooLong` where one byte more than `limit` came, past which it
+/// takes none, and `NoMemory` where no memory is left. After an error the bytes that were taken are lost.
 pub fn read_up_to<S: Source>(
     alloc: Global,
     source: &mut S,
@@ -162,7 +163,8 @@ pub fn read_up_to<S: Source>(
     }
 }
 
-/// All bytes that are left, if they are at most 1,048,576. It is `read_up_to` at this limit.
+/// All bytes that are left, if they are at most 1,048,576. It is `read_up_to` at this limit, with the same
+/// errors.
 pub fn read_all<S: Source>(alloc: Global, source: &mut S) -> Result<Vec<u8>, ReadEnd>
     ensures all { IfOk result (λ bytes. IfSome (S.left source.old) (λ before. bytes.items ≡ before)) }
     ensures end { OnOk result (IsAtEnd (S.left source.new)) }

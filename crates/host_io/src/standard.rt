@@ -1,7 +1,8 @@
 //! Standard input and output as a source and a sink. They tell no bytes, and no clause says which bytes
 //! come from the system or reach it.
 
-ghost use Rattle.std.specs.Prelude.{◌≡◌, ◌<◌, ◌≤◌, length, take, is_some, None, IfOk, OnErr};
+ghost use Rattle.std.specs.Prelude.{◌≡◌, ◌<◌, ◌≤◌, length, None, IfOk, OnOk, OnErr};
+ghost use Rattle.host_io.specs.Faults.{Faulted, next_count};
 
 use crate::failed::Failed;
 use crate::sink::Sink;
@@ -41,7 +42,13 @@ impl Source for StdSource {
 
     ghost faults = { λ s. s };
 
-    fn take(&mut self, buf: &mut [u8]) -> Result<usize, Failed> {
+    fn take(&mut self, buf: &mut [u8]) -> Result<usize, Failed>
+        ensures fits { IfOk result (λ n. n ≤ length buf.new) }
+        ensures steady { OnOk result (self.new ≡ self.old) }
+        ensures counted { OnErr result (self.new ≡ next_count self.old) }
+        ensures failed { OnErr result (Faulted self.old self.new) }
+        ensures counts { self.old ≤ self.new }
+    {
         for _ in 0..TRIES {
             match self.input.read(buf) {
                 Ok(count) => return Ok(count),
@@ -83,7 +90,14 @@ impl Sink for StdSink {
 
     ghost faults = { λ s. s };
 
-    fn put(&mut self, bytes: &[u8]) -> Result<usize, Failed> {
+    fn put(&mut self, bytes: &[u8]) -> Result<usize, Failed>
+        ensures fits { IfOk result (λ n. n ≤ length bytes.now) }
+        ensures progress { IfOk result (λ n. 0 < length bytes.now → 0 < n) }
+        ensures steady { OnOk result (self.new ≡ self.old) }
+        ensures counted { OnErr result (self.new ≡ next_count self.old) }
+        ensures failed { OnErr result (Faulted self.old self.new) }
+        ensures counts { self.old ≤ self.new }
+    {
         if bytes.is_empty() {
             return Ok(0);
         }
