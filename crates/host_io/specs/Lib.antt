@@ -1,6 +1,6 @@
 pub mod Faults
-pub mod EarlyEnd
-pub mod Part
+pub mod ReadEnd
+pub mod Sink
 pub mod Plan
 pub mod Memory
-pub mod StatusCode
+pub mod ToolStatus

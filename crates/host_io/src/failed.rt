@@ -1,5 +1,7 @@
 //! The one error of a single read or write.
 
+ghost use Rattle.std.specs.Prelude.{Some, codes};
+
 use std::fmt;
 
 /// A read or a write failed. The object that failed has counted a fault.
@@ -7,6 +9,8 @@ use std::fmt;
 pub struct Failed;
 
 impl fmt::Display for Failed {
+    ghost output = { λ _. Some (codes "a read or a write failed") };
+
     fn fmt<W: fmt::Write>(&self, f: &mut fmt::Formatter<W>) -> fmt::Result {
         write!(f, "a read or a write failed")
     }

@@ -3,7 +3,7 @@
 ghost use Rattle.std.specs.Prelude.{◌≡◌, ℕ, ◌<◌, ◌≤◌, List, length, take, Option, is_some, IfOk, OnOk, OnErr};
 ghost use Rattle.std.specs.Io.KnownBytes.{append_known};
 ghost use Rattle.host_io.specs.Faults.{Faulted};
-ghost use Rattle.host_io.specs.Part.{AppendsPart};
+ghost use Rattle.host_io.specs.Sink.{AppendsPart};
 
 use crate::failed::Failed;
 

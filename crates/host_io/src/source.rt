@@ -1,9 +1,9 @@
 //! Where bytes come from.
 
-ghost use Rattle.std.specs.Prelude.{◌≡◌, ◌≢◌, ℕ, ◌+◌, ◌<◌, ◌≤◌, List, ◌++◌, length, take, vec_len, is_some, Option, Err, IfOk, IfErr, IfSome, OnOk, OnErr, IsErrOf};
+ghost use Rattle.std.specs.Prelude.{◌≡◌, ◌≢◌, ℕ, ◌+◌, ◌<◌, ◌≤◌, List, ◌++◌, length, take, vec_len, is_some, Option, Some, Err, IfOk, IfErr, IfSome, OnOk, OnErr, IsErrOf};
 ghost use Rattle.std.specs.Io.KnownBytes.{prepend_known, IsAtEnd};
 ghost use Rattle.host_io.specs.Faults.{Faulted};
-ghost use Rattle.host_io.specs.EarlyEnd.{EndsEarly};
+ghost use Rattle.host_io.specs.ReadEnd.{EndsEarly, read_end_text};
 ghost use Rattle.host_io.specs.declared.source.ReadEnd.TheVariants.{Fault, NoMemory as WantOfMemory};
 
 use crate::failed::Failed;
@@ -46,6 +46,8 @@ pub enum ReadEnd {
 }
 
 impl fmt::Display for ReadEnd {
+    ghost output = { λ end. Some (read_end_text end) };
+
     fn fmt<W: fmt::Write>(&self, f: &mut fmt::Formatter<W>) -> fmt::Result {
         match self {
             ReadEnd::Fault => write!(f, "a read failed"),

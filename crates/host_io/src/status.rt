@@ -1,7 +1,7 @@
 //! How a tool ends.
 
 ghost use Rattle.std.specs.Prelude.{◌≡◌};
-ghost use Rattle.host_io.specs.StatusCode.{status_code};
+ghost use Rattle.host_io.specs.ToolStatus.{status_code};
 
 /// How a tool ends.
 #[derive(Clone, Copy, Debug, PartialEq, Eq)]

@@ -1,10 +1,10 @@
 //! What no clause says: that calls succeed, and what is left or held after a call that failed.
 
-ghost use Rattle.std.specs.Prelude.{None};
+ghost use Rattle.std.specs.Prelude.{◌<◌, ◌≤◌, None};
 
 use crate::{
-    Failed, MemSink, MemSource, READ_ALL_LIMIT, ReadEnd, Sink, Source, StdSink, StdSource,
-    read_all, read_up_to, write_all,
+    Failed, MAX_LIMIT, MemSink, MemSource, READ_ALL_LIMIT, ReadEnd, Sink, Source, StdSink,
+    StdSource, read_all, read_up_to, write_all,
 };
 use std::alloc::{AllocError, Global};
 
@@ -40,45 +40,63 @@ impl Sink for Drip {
     }
 }
 
+/// How many bytes are left after a read that ends like this, or None where it ends in another way.
+fn left_after(
+    alloc: Global,
+    end: ReadEnd,
+    source: &mut MemSource,
+    limit: usize,
+) -> Result<Option<usize>, ReadEnd>
+    requires positive { 0 < limit }
+    requires bounded { limit ≤ MAX_LIMIT }
+{
+    if read_up_to(alloc, source, limit).err() != Some(end) {
+        return Ok(None);
+    }
+    Ok(Some(read_all(alloc, source)?.len()))
+}
+
+fn left_after_fault(alloc: Global, failing: u64) -> Result<Option<usize>, ReadEnd> {
+    let mut source = source_of(alloc, 20_000, &[failing])?;
+    left_after(alloc, ReadEnd::Fault, &mut source, READ_ALL_LIMIT)
+}
+
+fn left_after_too_long(alloc: Global, limit: usize, len: usize) -> Result<Option<usize>, ReadEnd>
+    requires positive { 0 < limit }
+    requires bounded { limit ≤ MAX_LIMIT }
+{
+    let mut source = source_of(alloc, len, &[])?;
+    left_after(alloc, ReadEnd::TooLong, &mut source, limit)
+}
+
 #[test]
 fn reads_all_or_stops_at_the_call_that_fails(rt: HostRuntime) -> Result<(), ReadEnd> {
     // Two chunks of 8192 bytes, a rest, and the call that finds the end.
-    for failing in 1..=4 {
-        let mut source = source_of(rt.alloc(), 20_000, &[failing])?;
-        let first = read_all(rt.alloc(), &mut source);
-        assert_eq!(rt; first.err(), Some(ReadEnd::Fault), "at call {failing}");
-        let rest = read_all(rt.alloc(), &mut source)?;
-        let want = [20_000, 11_808, 3_616, 0][(failing - 1) as usize];
-        assert_eq!(rt; rest.len(), want, "after call {failing}");
-    }
-    let mut source = source_of(rt.alloc(), 20_000, &[5])?;
-    assert_eq!(rt; read_all(rt.alloc(), &mut source)?.len(), 20_000);
+    assert_eq!(rt; left_after_fault(rt.alloc(), 1)?, Some(20_000));
+    assert_eq!(rt; left_after_fault(rt.alloc(), 2)?, Some(11_808));
+    assert_eq!(rt; left_after_fault(rt.alloc(), 3)?, Some(3_616));
+    assert_eq!(rt; left_after_fault(rt.alloc(), 4)?, Some(0));
+    assert_eq!(rt; left_after_fault(rt.alloc(), 5)?, None);
     Ok(())
 }
 
 #[test]
 fn reads_at_most_the_limit(rt: HostRuntime) -> Result<(), ReadEnd> {
-    for (limit, len, left) in [
-        (1, 2, 0),
-        (5, 6, 0),
-        (5, 9, 3),
-        (8191, 8192, 0),
-        (8192, 20_000, 11_807),
-        (READ_ALL_LIMIT, READ_ALL_LIMIT + 1, 0),
-    ] {
-        let mut source = source_of(rt.alloc(), limit, &[])?;
-        assert_eq!(rt;
-            read_up_to(rt.alloc(), &mut source, limit)?.len(),
-            limit,
-            "at {limit}"
-        );
-
-        let mut source = source_of(rt.alloc(), len, &[])?;
-        let got = read_up_to(rt.alloc(), &mut source, limit);
-        assert_eq!(rt; got.err(), Some(ReadEnd::TooLong), "{len} bytes at {limit}");
-        let rest = read_all(rt.alloc(), &mut source)?;
-        assert_eq!(rt; rest.len(), left, "after {len} bytes at {limit}");
-    }
+    assert_eq!(rt; left_after_too_long(rt.alloc(), 5, 5)?, None);
+    assert_eq!(rt; left_after_too_long(rt.alloc(), 5, 6)?, Some(0));
+    assert_eq!(rt; left_after_too_long(rt.alloc(), 5, 9)?, Some(3));
+    assert_eq!(rt; left_after_too_long(rt.alloc(), 8191, 8192)?, Some(0));
+    assert_eq!(rt;
+        left_after_too_long(rt.alloc(), 8192, 20_000)?,
+        Some(11_807)
+    );
+    let mut source = source_of(rt.alloc(), READ_ALL_LIMIT, &[])?;
+    assert_eq!(rt; read_all(rt.alloc(), &mut source)?.len(), READ_ALL_LIMIT);
+    let mut source = source_of(rt.alloc(), READ_ALL_LIMIT + 1, &[])?;
+    assert_eq!(rt;
+        read_all(rt.alloc(), &mut source).err(),
+        Some(ReadEnd::TooLong)
+    );
     Ok(())
 }
 
