@@ -3,6 +3,7 @@
 
 mod locks;
 mod node;
+mod primary;
 mod steps;
 mod stores;
 
