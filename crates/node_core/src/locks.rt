@@ -72,53 +72,62 @@ impl Node {
     }
 
     /// Takes a key's queue, to be put back changed; an empty one stands in its place.
-    fn take_queue(&mut self, key: Key) -> Option<List<TxId>>
-        ensures { MatchOption result (TakesNoQueue self.old self.new key) (TakesQueue self.old self.new key) }
+    fn take_queue(&mut self, key: &Key) -> Option<List<TxId>>
+        ensures { MatchOption result (TakesNoQueue self.old self.new key.now) (TakesQueue self.old self.new key.now) }
     {
-        if self.state.queues.get(&key).is_some() {
-            Some(self.state.queues.replace(key, List::new(self.alloc)))
+        if self.state.queues.get(key).is_some() {
+            Some(self.state.queues.replace(*key, List::new(self.alloc)))
         } else {
             None
         }
     }
 
     /// Puts a key's queue into its place; an empty one is not kept.
-    fn put_queue(&mut self, key: Key, queue: List<TxId>) -> Mem<()>
-        ensures { OnOk result (self.new ≡ with_queue self.old key queue) }
+    fn put_queue(&mut self, key: &Key, queue: List<TxId>) -> Mem<()>
+        ensures { OnOk result (self.new ≡ with_queue self.old key.now queue) }
     {
         if queue.len() == 0 {
-            let _none = self.state.queues.remove(&key);
+            let _none = self.state.queues.remove(key);
             Ok(())
         } else {
-            self.state.queues.set(key, queue)
+            self.state.queues.set(*key, queue)
         }
     }
 
     /// The transaction stands at the end of the key's queue.
     #[tactic(auto, using(crate::proofs::TableLaws::key_put_put, crate::proofs::TableLaws::key_without_put))]
-    fn enqueue(&mut self, tx: TxId, key: Key) -> Mem<()>
-        ensures { OnOk result (self.new ≡ enqueued self.old tx key) }
+    fn enqueue(&mut self, tx: TxId, key: &Key) -> Mem<()>
+        ensures { OnOk result (self.new ≡ enqueued self.old tx key.now) }
     {
-        let Some(mut queue) = self.take_queue(key) else {
-            let mut first = List::new(self.alloc);
-            first.push(tx)?;
-            return self.put_queue(key, first);
-        };
-        queue.push(tx)?;
-        self.put_queue(key, queue)
+        match self.take_queue(key) {
+            Some(mut queue) => {
+                queue.push(tx)?;
+                self.put_queue(key, queue)
+            }
+            None => {
+                let mut queue = List::new(self.alloc);
+                queue.push(tx)?;
+                self.put_queue(key, queue)
+            }
+        }
     }
 
     /// Takes the transaction out of the key's queue.
     #[tactic(auto, using(crate::proofs::TableLaws::key_put_put, crate::proofs::TableLaws::key_without_put))]
-    fn leave(&mut self, tx: TxId, key: Key) -> Mem<()>
-        ensures { OnOk result (self.new ≡ left self.old tx key) }
+    fn leave(&mut self, tx: TxId, key: &Key) -> Mem<()>
+        ensures { OnOk result (self.new ≡ left self.old tx key.now) }
     {
-        let Some(queue) = self.take_queue(key) else {
-            return self.put_queue(key, List::new(self.alloc));
-        };
-        let mut waiting = queue.into_vec();
-        leave(&mut waiting, tx);
-        self.put_queue(key, List::from_vec(waiting))
+        match self.take_queue(key) {
+            Some(queue) => {
+                let mut waiting = queue.into_vec();
+                leave(&mut waiting, tx);
+                self.put_queue(key, List::from_vec(waiting))
+            }
+            None => {
+                let none = List::new(self.alloc);
+                self.put_queue(key, none)
+            }
+        }
     }
 
     /// Lock: the first at the key owns it and is told so, any other waits.
@@ -127,28 +136,28 @@ impl Node {
     {
         match self.owner(&key) {
             None => {
-                self.enqueue(tx, key)?;
+                self.enqueue(tx, &key)?;
                 self.grant(from, tx, top, key)
             }
             Some(holder) => {
-                self.enqueue(tx, key)?;
+                self.enqueue(tx, &key)?;
                 self.note(Rec::Queue { tx, key, holder })
             }
         }
     }
 
     /// The transaction leaves the key's queue; where it owned the key, the next one owns it.
-    fn release(&mut self, tx: TxId, key: Key) -> Mem<()>
-        ensures { OnOk result (self.new ≡ released self.old tx key) }
+    fn release(&mut self, tx: TxId, key: &Key) -> Mem<()>
+        ensures { OnOk result (self.new ≡ released self.old tx key.now) }
     {
-        let owned = match self.owner(&key) {
+        let owned = match self.owner(key) {
             Some(owner) => tx == owner,
             None => false,
         };
         self.leave(tx, key)?;
-        self.note(Rec::Drop { tx, key })?;
-        match self.owner(&key) {
-            Some(next) if owned => self.grant(next.node, next, self.installed_top(), key),
+        self.note(Rec::Drop { tx, key: *key })?;
+        match self.owner(key) {
+            Some(next) if owned => self.grant(next.node, next, self.installed_top(), *key),
             _ => Ok(()),
         }
     }
@@ -158,7 +167,7 @@ impl Node {
         ensures { OnOk result (self.new ≡ released_all self.old tx keys.now) }
     {
         for key in keys {
-            self.release(tx, *key)?;
+            self.release(tx, key)?;
         }
         Ok(())
     }
