@@ -1,5 +1,5 @@
 -- What a node does at the end of each act: what awaits nothing any more goes on, and what waits for the version starts.
-use Rattle.std.specs.Prelude.{ℕ, Bool, true, false, List, [], ◌∷◌, map, Option, Some, None, if◌then◌else◌}
+use Rattle.std.specs.Prelude.{ℕ, Bool, true, false, List, [], ◌∷◌, map, length, ◌==◌, Option, Some, None, if◌then◌else◌}
 use Rattle.ignite_types.specs.declared.journal.Rec.TheVariants as note
 use Rattle.ignite_types.specs.declared.names.NodeId.{NodeId}
 use Rattle.ignite_types.specs.declared.names.TopVer.{TopVer}
@@ -18,15 +18,15 @@ use Rattle.act_rows.specs.Primary.{due_shares, shares_on}
 
 -- A transaction that awaits no answer of its phase goes on: it is decided, or it has ended.
 
-abbrev pub near_goes_on : NodeState → TxId → TxEntry → List NodeId → TxState → NodeState
-near_goes_on s tx entry [] state.Preparing = decides s tx true
-near_goes_on s tx entry [] state.Committing = ended s tx (closing_answer entry.state entry.outcome)
-near_goes_on s tx entry [] state.RollingBack = ended s tx (closing_answer entry.state entry.outcome)
-near_goes_on s tx entry _ _ = s
+abbrev pub phase_over : NodeState → TxId → TxEntry → TxState → NodeState
+phase_over s tx entry state.Preparing = decides s tx true
+phase_over s tx entry state.Committing = ended s tx (closing_answer entry.state entry.outcome)
+phase_over s tx entry state.RollingBack = ended s tx (closing_answer entry.state entry.outcome)
+phase_over s tx entry _ = s
 
 abbrev pub near_on_entry : NodeState → TxId → Option TxEntry → NodeState
 near_on_entry s tx None = s
-near_on_entry s tx (Some entry) = near_goes_on s tx entry entry.awaited entry.state
+near_on_entry s tx (Some entry) = if length entry.awaited == 0 then phase_over s tx entry entry.state else s
 
 abbrev pub near_on_tx : NodeState → Option TxId → NodeState
 near_on_tx s None = s

@@ -1,5 +1,5 @@
 -- What a starter does for its transactions: accesses, the commit's two phases, and the answers of the primaries.
-use Rattle.std.specs.Prelude.{ℕ, Bool, true, false, nat_le, List, [], ◌∷◌, length, map, Option, Some, None, if◌then◌else◌}
+use Rattle.std.specs.Prelude.{ℕ, Bool, true, false, nat_le, ◌==◌, List, [], ◌∷◌, length, map, Option, Some, None, if◌then◌else◌}
 use Rattle.ignite_types.specs.declared.answer.Answer.{Answer}
 use Rattle.ignite_types.specs.declared.answer.Answer.TheVariants as answer
 use Rattle.ignite_types.specs.declared.journal.Rec.TheVariants as note
@@ -62,7 +62,7 @@ with_shares shares (holder ∷ more) primary =
 
 abbrev pub with_row : List Share → Row → Option NodeId → List Share
 with_row shares row None = shares
-with_row shares row (Some primary) = with_shares shares (placement.holders row) primary
+with_row shares row (Some primary) = with_shares (with_shares shares row.owners primary) row.movers primary
 
 abbrev pub with_row_of : List Share → Option Row → List Share
 with_row_of shares None = shares
@@ -168,14 +168,14 @@ abbrev pub decides : NodeState → TxId → Bool → NodeState
 decides s tx commit = decides_for s tx commit (entry_of s tx)
 
 -- the commit's first phase; without keys the decision comes at once
-abbrev pub commits_with : NodeState → TxId → TopVer → TxEntry → List Key → NodeState
-commits_with s tx top entry [] = decides s tx true
-commits_with s tx top entry (key ∷ keys) =
-    sent_all (begins_phase s tx state.Preparing) (prepare_outs s tx top entry (shares_of s.installed (key ∷ keys)) entry.asked)
+abbrev pub commits_with : NodeState → TxId → TopVer → TxEntry → NodeState
+commits_with s tx top entry = if length entry.keys == 0
+    then decides s tx true
+    else sent_all (begins_phase s tx state.Preparing) (prepare_outs s tx top entry (shares_of s.installed entry.keys) entry.asked)
 
 abbrev pub commits_for : NodeState → TxId → TopVer → Option TxEntry → NodeState
 commits_for s tx top None = s
-commits_for s tx top (Some entry) = commits_with s tx top entry entry.keys
+commits_for s tx top (Some entry) = commits_with s tx top entry
 
 abbrev pub commits : NodeState → TxId → TopVer → NodeState
 commits s tx top = commits_for s tx top (entry_of s tx)

@@ -78,13 +78,14 @@ finishing s from tx false share Prepared = begins_finish s tx Undoing from
 finishing s from tx false share Preparing = begins_finish s tx Undoing from
 finishing s from tx _ share _ = sent s from (msg.Finished tx)
 
-abbrev pub finish_at : NodeState → NodeId → TxId → Bool → OwnShare → List NodeId → NodeState
-finish_at s from tx commit share [] = finishing s from tx commit share share.state
-finish_at s from tx commit share (asker ∷ more) = adds_asker s tx from
+abbrev pub finish_at : NodeState → NodeId → TxId → Bool → OwnShare → NodeState
+finish_at s from tx commit share = if length share.askers == 0
+    then finishing s from tx commit share share.state
+    else adds_asker s tx from
 
 abbrev pub finish_of : NodeState → NodeId → TxId → Bool → Option OwnShare → NodeState
 finish_of s from tx commit None = sent (released_all s tx (keys_of s.queues tx)) from (msg.Finished tx)
-finish_of s from tx commit (Some share) = finish_at s from tx commit share share.askers
+finish_of s from tx commit (Some share) = finish_at s from tx commit share
 
 -- Finish: a Prepared share is committed or undone; without a share the places of the transaction are left at once
 abbrev pub finish_row : NodeState → NodeId → TxId → Bool → NodeState
@@ -108,15 +109,21 @@ abbrev pub finish_over : NodeState → TxId → OwnShare → NodeState
 finish_over s tx share =
     sent_all (share_after (released_all s tx (keys_of s.queues tx)) tx share.state) (finished_outs tx share.askers)
 
+abbrev pub finish_over_of : NodeState → TxId → Option OwnShare → NodeState
+finish_over_of s tx None = s
+finish_over_of s tx (Some share) = finish_over s tx share
+
 -- the share is prepared
 abbrev pub is_prepared : NodeState → TxId → NodeState
 is_prepared s tx = on_share s tx (λ share. record share { state = Prepared }) (share_of s tx)
 
+abbrev pub prepares_if : NodeState → TxId → ShareState → NodeState
+prepares_if s tx Preparing = sent (is_prepared s tx) tx.node (msg.Prepared tx)
+prepares_if s tx _ = s
+
 -- a share goes on once no answer is awaited: it is prepared, or its finish is over
-abbrev pub goes_on : NodeState → TxId → OwnShare → List NodeId → ShareState → NodeState
-goes_on s tx share [] Preparing = sent (is_prepared s tx) tx.node (msg.Prepared tx)
-goes_on s tx share [] _ = s
-goes_on s tx share (asker ∷ more) _ = finish_over s tx share
+abbrev pub goes_on : NodeState → TxId → OwnShare → NodeState
+goes_on s tx share = if length share.askers == 0 then prepares_if s tx share.state else finish_over s tx share
 
 -- whether the share has something to do: no answer is awaited, and it is Preparing or its finish is in work
 abbrev pub is_due : List NodeId → List NodeId → ShareState → Bool
@@ -130,7 +137,7 @@ due_shares (e ∷ es) = if is_due e.1.awaited e.1.askers e.1.state then e.0 ∷ 
 
 abbrev pub share_on : NodeState → TxId → Option OwnShare → NodeState
 share_on s tx None = s
-share_on s tx (Some share) = goes_on s tx share share.askers share.state
+share_on s tx (Some share) = goes_on s tx share
 
 abbrev pub shares_on : NodeState → List TxId → NodeState
 shares_on s [] = s

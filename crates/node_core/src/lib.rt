@@ -2,8 +2,10 @@
 #![tactic(auto)]
 
 mod locks;
+mod near;
 mod node;
 mod primary;
+mod rows;
 mod steps;
 mod stores;
 

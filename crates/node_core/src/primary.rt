@@ -2,7 +2,7 @@
 
 ghost use Rattle.std.specs.Prelude.{◌≡◌, ◌++◌, [], ◌∷◌, List, OnOk, IfOk, MatchOption};
 ghost use Rattle.std.specs.Option.{option_copied};
-ghost use Rattle.act_rows.specs.Primary.{adds_asker, applied_all, begins_finish, drawn, drawn_up_to, dropped_shares, due_shares, ends_finish, finish_over, finish_row, finished_outs, finishing, forgetting, goes_on, is_due, is_old, is_prepared, old_shares, prepare_row, preparing, share_after, share_on, shares_on};
+ghost use Rattle.act_rows.specs.Primary.{adds_asker, applied_all, begins_finish, drawn, drawn_up_to, dropped_shares, due_shares, ends_finish, finish_over_of, finish_row, finished_outs, forgetting, is_due, is_old, is_prepared, old_shares, prepare_row, share_on, shares_on};
 ghost use Rattle.act_rows.specs.Steps.{share_of, with_share};
 ghost use Rattle.node_core.specs.Taking.{TakesNoShare, TakesShare, vacant_share};
 
@@ -215,5 +215,99 @@ impl Node {
             askers: Set::new(self.alloc),
         };
         self.put_share(tx, share)
+    }
+
+    /// Each write is done and noted.
+    fn apply_all(&mut self, tx: TxId, top: TopVer, writes: &[Stored]) -> Mem<()>
+        ensures { OnOk result (self.new ≡ applied_all self.old tx top writes.now) }
+    {
+        for write in writes {
+            self.store(write)?;
+            let primary = self.state.me;
+            let new = write.value;
+            let ver = write.ver;
+            let key = write.key;
+            self.note(Rec::Apply { tx, top, primary, key, new, ver })?;
+        }
+        Ok(())
+    }
+
+    /// Finish: a Prepared share is committed or undone; without a share the transaction's places are left at once.
+    pub(crate) fn on_finish(&mut self, from: NodeId, tx: TxId, commit: bool) -> Mem<()>
+        ensures { OnOk result (self.new ≡ finish_row self.old from tx commit) }
+    {
+        let Some(share) = self.share(&tx) else {
+            self.release_all(tx)?;
+            return self.send(from, Message::Finished { tx });
+        };
+        if share.askers.len() != 0 {
+            return self.add_asker(tx, from);
+        }
+        match (commit, share.state) {
+            (true, ShareState::Prepared) => {
+                let top = share.top;
+                let writes = List::from_slice(self.alloc, share.writes.as_slice())?;
+                self.apply_all(tx, top, writes.as_slice())?;
+                self.begin_finish(tx, ShareState::Committed, from)
+            }
+            (false, ShareState::Prepared) => self.begin_finish(tx, ShareState::Undoing, from),
+            (false, ShareState::Preparing) => self.begin_finish(tx, ShareState::Undoing, from),
+            _ => self.send(from, Message::Finished { tx }),
+        }
+    }
+
+    /// The end of a finish: the places are left, and each node that asked is told.
+    fn finish_over(&mut self, tx: TxId) -> Mem<()>
+        ensures { OnOk result (self.new ≡ finish_over_of self.old tx (share_of self.old tx)) }
+    {
+        let Some(share) = self.share(&tx) else {
+            return Ok(());
+        };
+        let state = share.state;
+        let outs = finished_outs(self.alloc, tx, share.askers.as_slice())?;
+        self.release_all(tx)?;
+        match state {
+            ShareState::Undoing => {
+                let _dropped = self.state.shares.remove(&tx);
+            }
+            _ => self.end_finish(tx)?,
+        }
+        self.send_all(outs)
+    }
+
+    /// A share that awaits no answer goes on: it is prepared, or its finish is over.
+    fn share_goes_on(&mut self, tx: TxId) -> Mem<()>
+        ensures { OnOk result (self.new ≡ share_on self.old tx (share_of self.old tx)) }
+    {
+        let Some(share) = self.share(&tx) else {
+            return Ok(());
+        };
+        if share.askers.len() != 0 {
+            return self.finish_over(tx);
+        }
+        match share.state {
+            ShareState::Preparing => {
+                self.set_prepared(tx)?;
+                self.send(tx.node, Message::Prepared { tx })
+            }
+            _ => Ok(()),
+        }
+    }
+
+    fn each_share_goes_on(&mut self, txs: &[TxId]) -> Mem<()>
+        ensures { OnOk result (self.new ≡ shares_on self.old txs.now) }
+    {
+        for tx in txs {
+            self.share_goes_on(*tx)?;
+        }
+        Ok(())
+    }
+
+    /// Each share that awaits no answer goes on, by transaction.
+    pub(crate) fn shares_go_on(&mut self) -> Mem<()>
+        ensures { OnOk result (self.new ≡ shares_on self.old (due_shares self.old.shares)) }
+    {
+        let due = due_shares(self.alloc, &self.state.shares)?;
+        self.each_share_goes_on(due.as_slice())
     }
 }

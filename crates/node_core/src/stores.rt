@@ -4,9 +4,10 @@ ghost use Rattle.std.specs.Prelude.{◌≡◌, OnOk, slice_set};
 ghost use Rattle.act_rows.specs.Stores.{applied_to, copy_at, found_at, found_in, kept, partition, stored};
 
 use crate::node::Node;
-use ignite_types::{Found, Key, Mem, Stored};
+use ignite_types::{Found, Key, List, Mem, Stored};
 use node_state::{Entry, Store};
 use std::cmp::Ordering;
+use std::mem;
 
 /// What a copy has at the key.
 fn found_in(store: &Store, key: &Key) -> Found
@@ -48,6 +49,16 @@ fn apply(store: &mut Store, write: &Stored) -> Mem<()>
     }
 }
 
+/// A write is done to the copy at this place, where there is one.
+fn apply_at(copies: &mut Vec<Store>, part: usize, write: &Stored) -> Mem<()>
+    ensures { OnOk result (copies.new.items ≡ slice_set copies.old.items part (applied_to (copy_at copies.old.items part) write.now)) }
+{
+    if copies.len() <= part {
+        return Ok(());
+    }
+    apply(&mut copies[part], write)
+}
+
 impl Node {
     /// The partition of a key by the installed map.
     fn partition(&self, key: &Key) -> u32
@@ -65,5 +76,17 @@ impl Node {
     {
         let store = self.state.stores.get(self.partition(key) as usize)?;
         found_in(store, key)
+    }
+
+    /// A write is done to the copy of its key's partition.
+    pub(crate) fn store(&mut self, write: &Stored) -> Mem<()>
+        ensures { OnOk result (self.new ≡ stored self.old write.now) }
+    {
+        let part = self.partition(&write.key) as usize;
+        let stores = mem::replace(&mut self.state.stores, List::new(self.alloc));
+        let mut copies = stores.into_vec();
+        apply_at(&mut copies, part, write)?;
+        self.state.stores = List::from_vec(copies);
+        Ok(())
     }
 }
