@@ -26,13 +26,13 @@ on_link inbox from f (Some link) = with_link inbox from (f link)
 abbrev pub link_of : Inbox → NodeId → Option Link
 link_of inbox from = at node_cmp inbox.links from
 
--- the empty inbox of a node, one link for each sender
-abbrev pub inbox_of : List NodeId → List (NodeId × Link)
-inbox_of [] = []
-inbox_of (from ∷ more) = put node_cmp (inbox_of more) from (record { held = false; messages = [] })
+-- an empty link for each of these senders
+abbrev pub inbox_from : List (NodeId × Link) → List NodeId → List (NodeId × Link)
+inbox_from links [] = links
+inbox_from links (from ∷ more) = inbox_from (put node_cmp links from (record { held = false; messages = [] })) more
 
 abbrev pub new_inbox : List NodeId → Inbox
-new_inbox senders = record { closed = false; links = inbox_of senders }
+new_inbox senders = record { closed = false; links = inbox_from [] senders }
 
 abbrev pub pushed : Inbox → NodeId → Message → Inbox
 pushed inbox from m = if inbox.closed then inbox
@@ -44,8 +44,12 @@ oldest inbox from = option_and_then (λ link. slice_get link.messages 0) (link_o
 abbrev pub popped : Inbox → NodeId → Inbox
 popped inbox from = on_link inbox from (λ link. record link { messages = drop 1 link.messages }) (link_of inbox from)
 
+abbrev pub held_by : Option Link → Bool
+held_by None = false
+held_by (Some link) = link.held
+
 abbrev pub is_held : Inbox → NodeId → Bool
-is_held inbox from = elim (link_of inbox from) [ None ↦ false | Some link ↦ link.held ]
+is_held inbox from = held_by (link_of inbox from)
 
 abbrev pub with_hold : Inbox → NodeId → Bool → Inbox
 with_hold inbox from held = on_link inbox from (λ link. record link { held = held }) (link_of inbox from)

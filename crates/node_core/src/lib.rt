@@ -1,6 +1,8 @@
 //! A node: its rows over its state, and its acts. After each call the state is the one that the protocol defines.
 #![tactic(auto)]
 
+mod act;
+mod closing;
 mod locks;
 mod near;
 mod node;

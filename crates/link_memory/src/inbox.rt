@@ -1,0 +1,170 @@
+//! A node's inbox.
+
+ghost use Rattle.std.specs.Prelude.{◌≡◌, ◌++◌, false, [], ◌∷◌, drop, slice_get, OnOk, IfOk, MatchOption};
+ghost use Rattle.std.specs.Option.{option_copied};
+ghost use Rattle.act_rows.specs.Links.{is_held, new_inbox, oldest, popped, pushed};
+ghost use Rattle.link_memory.specs.Taking.{TakesLink, TakesNoLink};
+
+use ignite_types::{List, Mem, Message, NodeId};
+use ordered_table::Table;
+use std::alloc::Global;
+use std::marker::Model;
+
+/// A link from one sender: its messages, the oldest first, and whether it is held.
+#[derive(Debug, Drop)]
+pub struct Link {
+    held: bool,
+    messages: List<Message>,
+}
+
+impl Model for Link {
+    ghost use Rattle.act_rows.specs.Links.{Link as LinkValue};
+
+    ghost Value = { LinkValue };
+
+    ghost view = { λ link. record { held = link.held; messages = link.messages } };
+}
+
+/// A node's inbox, with a link for each sender. A closed inbox drops what is pushed.
+#[derive(Debug, Drop)]
+pub struct Inbox {
+    alloc: Global,
+    closed: bool,
+    links: Table<NodeId, Link>,
+}
+
+impl Model for Inbox {
+    ghost use Rattle.act_rows.specs.Links.{Inbox as InboxValue};
+
+    ghost Value = { InboxValue };
+
+    ghost view = { λ inbox. record { closed = inbox.closed; links = inbox.links } };
+}
+
+fn vacant_link(alloc: Global) -> Link
+    ensures { result ≡ record { held = false; messages = [] } }
+{
+    Link {
+        held: false,
+        messages: List::new(alloc),
+    }
+}
+
+impl Link {
+    fn push(&mut self, message: Message) -> Mem<()>
+        ensures { OnOk result (self.new ≡ record self.old { messages = self.old.messages ++ message ∷ [] }) }
+    {
+        self.messages.push(message)
+    }
+
+    /// Takes the oldest message out.
+    fn pop(&mut self) -> Option<Message>
+        ensures oldest { result ≡ slice_get self.old.messages 0 }
+        ensures rest { self.new ≡ record self.old { messages = drop 1 self.old.messages } }
+    {
+        if self.messages.is_empty() {
+            None
+        } else {
+            Some(self.messages.remove(0))
+        }
+    }
+
+    fn oldest(&self) -> Option<&Message>
+        ensures { option_copied result ≡ slice_get self.now.messages 0 }
+    {
+        self.messages.get(0)
+    }
+
+    fn is_held(&self) -> bool
+        ensures { result ≡ self.now.held }
+    {
+        self.held
+    }
+
+    fn hold(&mut self, held: bool)
+        ensures { self.new ≡ record self.old { held = held } }
+    {
+        self.held = held;
+    }
+}
+
+impl Inbox {
+    /// The inbox with an empty link for each of these senders.
+    pub fn new(alloc: Global, senders: &[NodeId]) -> Mem<Inbox>
+        ensures { IfOk result (λ inbox. inbox ≡ new_inbox senders.now) }
+    {
+        let mut links = Table::new(alloc);
+        for sender in senders {
+            links.set(*sender, vacant_link(alloc))?;
+        }
+        Ok(Inbox {
+            alloc,
+            closed: false,
+            links,
+        })
+    }
+
+    /// Takes a sender's link, to be put back changed; a vacant one stands in its place.
+    fn take_link(&mut self, from: NodeId) -> Option<Link>
+        ensures { MatchOption result (TakesNoLink self.old self.new from) (TakesLink self.old self.new from) }
+    {
+        if self.links.get(&from).is_some() {
+            Some(self.links.replace(from, vacant_link(self.alloc)))
+        } else {
+            None
+        }
+    }
+
+    /// Appends a message to its sender's; a closed inbox drops it.
+    #[tactic(auto, using(crate::proofs::LinkLaws::node_put_put))]
+    pub fn push(&mut self, from: NodeId, message: Message) -> Mem<()>
+        ensures { OnOk result (self.new ≡ pushed self.old from message) }
+    {
+        if self.closed {
+            return Ok(());
+        }
+        match self.take_link(from) {
+            Some(mut link) => {
+                link.push(message)?;
+                self.links.set(from, link)
+            }
+            None => Ok(()),
+        }
+    }
+
+    /// The oldest message of a sender.
+    pub fn oldest(&self, from: NodeId) -> Option<&Message>
+        ensures { option_copied result ≡ oldest self.now from }
+    {
+        match self.links.get(&from) {
+            Some(link) => link.oldest(),
+            None => None,
+        }
+    }
+
+    /// Takes the oldest message of a sender out. With none there, nothing changes.
+    #[tactic(auto, using(crate::proofs::LinkLaws::node_put_put, crate::proofs::LinkLaws::node_put_there))]
+    pub fn pop(&mut self, from: NodeId) -> Option<Message>
+        ensures message { result ≡ oldest self.old from }
+        ensures rest { self.new ≡ popped self.old from }
+    {
+        match self.take_link(from) {
+            Some(mut link) => {
+                let message = link.pop();
+                let _vacant = self.links.replace(from, link);
+                message
+            }
+            None => None,
+        }
+    }
+
+    /// Whether the link from a sender is held.
+    pub fn is_held(&self, from: NodeId) -> bool
+        ensures { result ≡ is_held self.now from }
+    {
+        match self.links.get(&from) {
+            Some(link) => link.is_held(),
+            None => false,
+        }
+    }
+}
