@@ -1,8 +1,10 @@
-use Rattle.std.proofs.Common.{ap, ◌∙◌}
-use Rattle.act_rows.specs.Links.{Inbox}
+use Rattle.std.proofs.Common.{ap, ◌∙◌, [], false}
+use Rattle.act_rows.specs.Links.{Inbox, Link}
 use Rattle.link_memory.proofs.LinkLaws.{node_put_there}
 use Rattle.link_memory.proofs.inbox.Inbox.pop.Goals as goal
 
 pub replace-vacant-requires : goal.replace-vacant-requires
 replace-vacant-requires c =
-    rw (ap (λ (i : Inbox). i.links) (c.self.view_is ∙ c.in-Some.ensures.vacant)) (node_put_there _ _ _)
+    let vacant : Link = record { held = false; messages = [] } in
+    rw (ap (λ (i : Inbox). i.links) (c.self.view_is ∙ c.in-Some.ensures.vacant))
+      (node_put_there c.args.self.now.links c.args.from vacant)
