@@ -37,6 +37,12 @@ GivesInMemory (Ok x) said = said ≡ Ok x
 GivesInMemory (Err (fault.Bad cause)) said = said ≡ Err cause
 GivesInMemory (Err fault.NoMemory) said = Unit {0}
 
+-- the same of a value that a call changed
+abbrev pub Becomes : {A : Type 0} → Result (Unit {0}) LineFault → A → Result A Cause → Type 0
+Becomes (Ok done) new said = said ≡ Ok new
+Becomes (Err (fault.Bad cause)) new said = said ≡ Err cause
+Becomes (Err fault.NoMemory) new said = Unit {0}
+
 -- what was read is what the definition says, and so is a refusal; only want of memory may come at any text
 abbrev pub Reads : {A : Type 0} → Result A ReadFault → Result A Refusal → Type 0
 Reads (Ok x) said = said ≡ Ok x
