@@ -1,2 +1,3 @@
 pub mod Cuts
+mod Examples
 pub mod WordLemmas

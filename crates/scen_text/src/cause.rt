@@ -2,7 +2,6 @@
 
 ghost use Rattle.std.specs.Prelude.{◌≡◌, ◌++◌, codes, decimal, IfOk, Some};
 ghost use Rattle.scen_text.specs.declared.cause.LineFault.TheVariants as fault;
-ghost use Rattle.scen_text.specs.declared.cause.ReadFault.TheVariants as read;
 ghost use Rattle.scen_text.specs.Causes.{cause_text, refusal_text};
 
 use crate::text_out::TextOut;
@@ -32,6 +31,8 @@ impl Cause {
 }
 
 impl fmt::Display for Cause {
+    ghost output = { λ cause. Some (cause_text cause) };
+
     fn fmt<W: fmt::Write>(&self, f: &mut fmt::Formatter<W>) -> fmt::Result {
         f.write_str(self.text())
     }
@@ -43,14 +44,6 @@ impl fmt::Display for Cause {
 pub enum ReadFault {
     Refused { line: u32, cause: Cause },
     NoMemory,
-}
-
-impl From<NoMemory> for ReadFault {
-    ghost from_gives = { λ _ e. e ≡ read.NoMemory };
-
-    fn from(_: NoMemory) -> ReadFault {
-        ReadFault::NoMemory
-    }
 }
 
 /// Why a line was not taken.

@@ -15,3 +15,6 @@ pub use cause::{Cause, ReadFault, refusal_line};
 pub use items::{write_item, write_key};
 pub use read::{TEXT_BYTES, read_scenario};
 pub use text_out::TextOut;
+
+#[cfg(test)]
+mod tests;

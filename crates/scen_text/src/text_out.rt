@@ -67,8 +67,8 @@ impl TextOut {
     pub fn integer(&mut self, number: i64) -> Mem<()>
         ensures { OnOk result (self.new ≡ self.old ++ signed_decimal number) }
     {
-        let mut digits = Buffer::new();
-        self.bytes(digits.format(number).as_bytes())
+        let mut signed = Buffer::new();
+        self.bytes(signed.format(number).as_bytes())
     }
 
     /// Gives the bytes; it takes no memory.
