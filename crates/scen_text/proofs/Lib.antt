@@ -1,3 +1,4 @@
 pub mod Cuts
 mod Examples
+pub mod GoodLaws
 pub mod WordLemmas
