@@ -57,7 +57,7 @@ abbrev pub in_order : List Cache → Bool
 in_order [] = true
 in_order (cache ∷ more) =
     (has_cache_line cache || (has_data_line cache && not (list_any has_cache_line more)) || (is_started cache && list_all is_started more))
-      && in_order more
+    && in_order more
 
 abbrev pub same_cache_name : Cache → Cache → Bool
 same_cache_name a b = bytes_eq a.name b.name
@@ -66,7 +66,7 @@ same_cache_name a b = bytes_eq a.name b.name
 abbrev pub good_caches : List Cache → Bool
 good_caches caches =
     list_all good_cache caches && in_order caches && list_any has_cache_line caches && are_distinct same_cache_name caches
-      && nat_le (length caches) 8 && nat_le (sum_by (λ cache. cache.parts) caches) 1024
+    && nat_le (length caches) 8 && nat_le (sum_by (λ cache. cache.parts) caches) 1024
 
 -- format 1 has one cache, which is named `default`, and runs from the start
 abbrev pub is_default : List Cache → Bool
@@ -95,7 +95,7 @@ has_member all node = list_any (λ member. member.node.0 == node.0) all
 abbrev pub good_nodes : Scenario → Bool
 good_nodes s =
     list_all (λ member. is_within 1 99 member.node.0) (members s) && are_distinct same_node (members s)
-      && nat_le (length (members s)) 16 && list_any (λ member. member.server) s.nodes
+    && nat_le (length (members s)) 16 && list_any (λ member. member.server) s.nodes
 
 abbrev pub no_moment_falls : List PlanStep → Bool
 no_moment_falls [] = true
@@ -142,13 +142,13 @@ count_up n (number ∷ more) = number == n && count_up (n + 1) more
 abbrev pub good_starts : List Cache → List ℕ → Bool
 good_starts caches started =
     count_up (length (filter (λ cache. cache.first) caches)) started
-      && (length (filter is_started caches) == length started)
+    && (length (filter is_started caches) == length started)
 
 -- at most 64 steps, at moments from 1 to 1000000 that do not fall
 abbrev pub good_plan : Scenario → Bool
 good_plan s =
     nat_le (length s.plan) 64 && list_all (λ planned. is_within 1 1000000 planned.moment) s.plan && no_moment_falls s.plan
-      && good_steps s.caches (members s) [] s.plan && good_starts s.caches (filter_map (λ planned. starting planned.step) s.plan)
+    && good_steps s.caches (members s) [] s.plan && good_starts s.caches (filter_map (λ planned. starting planned.step) s.plan)
 
 abbrev pub is_plain_cache : Option Cache → Bool
 is_plain_cache (Some cache) = not cache.«data»
@@ -207,7 +207,7 @@ good_blocks opened (item ∷ more) = (is_plain item || not opened) && good_block
 abbrev pub good_session : List Cache → List Member → Session → Bool
 good_session caches all session =
     is_name session.name && has_member all session.node && nat_le (length session.commands) 1000
-      && list_all (good_item caches) session.commands && good_blocks false session.commands
+    && list_all (good_item caches) session.commands && good_blocks false session.commands
 
 -- what an object is
 pub data ObjectKind : Type 0 where
@@ -244,7 +244,7 @@ same_session_name a b = bytes_eq a.name b.name
 abbrev pub good_sessions : Scenario → Bool
 good_sessions s =
     nat_le (length s.sessions) 64 && list_all (good_session s.caches (members s)) s.sessions && are_distinct same_session_name s.sessions
-      && good_kinds (filter_map object_of (flat_map (λ session. session.commands) s.sessions))
+    && good_kinds (filter_map object_of (flat_map (λ session. session.commands) s.sessions))
 
 -- whether a scenario is good
 abbrev pub good : Scenario → Bool

@@ -38,11 +38,11 @@ example : scenario_of (codes "scenario 1\nserver 1\nsession A 1\nbegin\nput a 1\
     name = codes "A";
     node = record { 0 = 1 };
     commands =
-      Plain (command.Begin Pessimistic 0)
+        Plain (command.Begin Pessimistic 0)
         ∷ Plain (command.Put (record { cache = 0; text = codes "a" }) (codes "1"))
         ∷ Plain command.Commit
-        ∷ Plain (command.Get (record { cache = 0; text = codes "a" })) ∷ []
-  } ∷ []
+        ∷ Plain (command.Get (record { cache = 0; text = codes "a" })) ∷ [];
+  } ∷ [];
 })
 unfolding is_utf8 chars encode_utf8
 example = refl

@@ -1,5 +1,7 @@
 //! Reading a scenario.
 
+ghost use Rattle.std.specs.Prelude.{IfOk, IsTrue};
+ghost use Rattle.ignite_types.specs.Good.{good};
 ghost use Rattle.scen_text.specs.Causes.{GivesInMemory, Reads};
 ghost use Rattle.std.specs.Str.Lines.{lines};
 ghost use Rattle.std.specs.Prelude.{◌≡◌, length, ◌≤◌};
@@ -27,9 +29,10 @@ fn read_lines(alloc: Global, text: &[u8]) -> Result<Scenario, LineFault>
     draft.finish(alloc)
 }
 
-/// Reads a scenario. Of a text that is none, the first line that is wrong is refused.
+/// Reads a scenario. A text that is none is refused; only want of memory may come at any text.
 pub fn read_scenario(alloc: Global, bytes: &[u8]) -> Result<Scenario, ReadFault>
-    ensures { Reads result (scenario_of bytes.now) }
+    ensures reads { Reads result (scenario_of bytes.now) }
+    ensures good { IfOk result (λ scenario. IsTrue (good scenario)) }
 {
     if bytes.len() > TEXT_BYTES {
         return Err(ReadFault::Refused {
