@@ -1,0 +1,5 @@
+pub mod Cuts
+mod Examples
+mod GoodExamples
+pub mod GoodLaws
+pub mod WordLemmas
