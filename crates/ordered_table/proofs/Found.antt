@@ -1,5 +1,5 @@
 -- What a binary search finds among entries whose keys ascend.
-use Rattle.std.proofs.Common.{◌≡◌, ℕ, zero, suc, ◌<◌, ◌≤◌, List, [], ◌∷◌, length, get_or, set, Some, None, Result, Ok, Err, IfOk, IfErr, refl, ap, sym, ◌∙◌, arith}
+use Rattle.std.proofs.Common.{◌≡◌, ℕ, zero, suc, ◌<◌, ◌≤◌, List, [], ◌∷◌, length, slice_get, ◌-◌, get_or, set, Some, None, Result, Ok, Err, IfOk, IfErr, refl, ap, sym, ◌∙◌, arith}
 use Rattle.std.specs.declared.cmp.Ordering.{Ordering}
 use Rattle.std.specs.declared.cmp.Ordering.TheVariants.{Less, Equal, Greater}
 use Rattle.std.specs.Cmp.{IsTotalOrder}
@@ -7,9 +7,10 @@ use Rattle.std.specs.List.{insert, remove}
 use Rattle.std.specs.List.Sorted.{IsSearchInRange, IsBinarySearchResult}
 use Rattle.std.specs.Ordering.{ordering_index}
 use Rattle.std.proofs.lemmas.Cmp.{tied_back}
+use Rattle.std.proofs.lemmas.Option.{slice_get_within, slice_get-get_or}
 use Rattle.ordered_table.specs.Entries.{at, put, without}
 use Rattle.ordered_table.specs.Places.{IsBelowAll, IsAscending, IsFound, IsMissing}
-use Rattle.ordered_table.proofs.Orders.{less_back, greater_back, comparison_rises}
+use Rattle.ordered_table.proofs.Orders.{less_back, greater_back, comparison_rises, least_is_less}
 use Rattle.ordered_table.proofs.Ascending.{ascending_put, ascending_without}
 
 module _ {K V : Type 0} (cmp : K → K → Ordering) (o : IsTotalOrder cmp) where
@@ -111,6 +112,20 @@ module _ {K V : Type 0} (cmp : K → K → Ordering) (o : IsTotalOrder cmp) wher
     rest = missing_rest es k i is;
     write_ascends = λ v. rw (sym (missing_write es k i is v)) (ascending_put cmp o es k v ascending);
   }
+
+  -- a key above the last one belongs at the end
+  pub above_last : (es : List (K × V)) (k : K) (x : K × V) → IsAscending cmp es → slice_get es (length es - 1) ≡ Some x → cmp x.0 k ≡ Less → IsMissing cmp es k (length es)
+  above_last es k x ascending last less =
+      let within = slice_get_within es (length es - 1) x last in
+      let read : (d : K × V) → get_or es (length es - 1) d ≡ x = λ d. let e = slice_get-get_or es (length es - 1) d within in cc in
+      missing es k (length es) ascending (record {
+        within = omega arith;
+        below = λ j d lt. least_is_less _ (
+            let rise = comparisons_rise es k ascending j (length es - 1) d (omega arith) within in
+            let least : ordering_index (cmp (get_or es (length es - 1) d).0 k) ≡ 0 = rw (read d, less) in
+            omega arith);
+        above = λ j d le lt. absurd (omega arith);
+      })
 
   -- a binary search ends at the key, or where it belongs
   pub searched : (es : List (K × V)) (k : K) → IsAscending cmp es → (r : Result ℕ ℕ) → IsSearchInRange r (length es) → IsBinarySearchResult (λ e. cmp e.0 k) es r → record { found : IfOk r (IsFound cmp es k); missing : IfErr r (IsMissing cmp es k) }

@@ -1,9 +1,19 @@
 -- What an order says of two keys the other way round.
-use Rattle.std.proofs.Common.{◌≡◌, ◌≤◌, ◌∙◌, ap, refl, arith}
+use Rattle.std.proofs.Common.{true, ◌≡◌, ◌≤◌, ◌∙◌, ap, refl, arith}
 use Rattle.std.specs.declared.cmp.Ordering.{Ordering}
 use Rattle.std.specs.declared.cmp.Ordering.TheVariants.{Less, Equal, Greater}
 use Rattle.std.specs.Cmp.{IsTotalOrder}
-use Rattle.std.specs.Ordering.{ordering_reverse, ordering_index}
+use Rattle.std.specs.Ordering.{ordering_reverse, ordering_index, is_lt}
+
+pub least_is_less : (r : Ordering) → ordering_index r ≤ 0 → r ≡ Less
+least_is_less Less le = refl
+least_is_less Equal le = absurd (omega arith)
+least_is_less Greater le = absurd (omega arith)
+
+pub less_from_test : (r : Ordering) → is_lt r ≡ true → r ≡ Less
+less_from_test Less test = refl
+less_from_test Equal test = absurd (cc)
+less_from_test Greater test = absurd (cc)
 
 module _ {K : Type 0} {cmp : K → K → Ordering} (o : IsTotalOrder cmp) where
   pub less_back : (x y : K) → cmp x y ≡ Less → cmp y x ≡ Greater

@@ -79,7 +79,10 @@ impl<K: Ord + Copy, V> Table<K, V> {
         ensures found { IfOk result (IsFound K.cmp self.now key.now) }
         ensures missing { IfErr result (IsMissing K.cmp self.now key.now) }
     {
-        self.entries.binary_search_by_key(key, |entry| entry.0)
+        match self.entries.last() {
+            Some(last) if last.0.cmp(key).is_lt() => Err(self.entries.len()),
+            _ => self.entries.binary_search_by_key(key, |entry| entry.0),
+        }
     }
 }
 
