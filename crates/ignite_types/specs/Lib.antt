@@ -1,9 +1,6 @@
-<<<<<<< HEAD
 pub mod Affinity
-pub mod Names
-=======
 pub mod Good
->>>>>>> text
+pub mod Names
 pub mod Padded
 pub mod Placement
 pub mod Texts
