@@ -1,8 +1,8 @@
 //! The acts of a node.
 
-ghost use Rattle.std.specs.Prelude.{◌≡◌, [], drop, OnOk, IfOk};
+ghost use Rattle.std.specs.Prelude.{◌≡◌, [], OnOk, IfOk};
 ghost use Rattle.std.specs.Option.{option_copied};
-ghost use Rattle.act_rows.specs.Acts.{answer_act, begun, call_act, may_answer, may_call, may_send, message_act, message_row, oldest_out};
+ghost use Rattle.act_rows.specs.Acts.{answer_act, begun, call_act, may_answer, may_call, may_send, message_act, message_row, oldest_out, send_act};
 ghost use Rattle.act_rows.specs.Closing.{closed};
 
 use crate::node::Node;
@@ -88,7 +88,7 @@ impl Node {
     /// Takes the oldest message out of the outbox.
     pub fn pop_out(&mut self) -> Option<Out>
         ensures out { result ≡ oldest_out self.old }
-        ensures rest { self.new ≡ record (begun self.old) { outbox = drop 1 self.old.outbox } }
+        ensures rest { self.new ≡ (send_act self.old).state }
     {
         self.begin_act();
         if self.state.outbox.is_empty() {

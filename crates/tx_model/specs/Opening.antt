@@ -11,8 +11,9 @@ use Rattle.ignite_types.specs.declared.scenario.Member.{Member}
 use Rattle.ignite_types.specs.declared.scenario.Scenario.{Scenario}
 use Rattle.ignite_types.specs.declared.scenario.Session.{Session}
 use Rattle.ignite_types.specs.Affinity.{opening_map}
-use Rattle.ignite_types.specs.Names.{same_node}
+use Rattle.ignite_types.specs.Names.{node_cmp, same_node}
 use Rattle.ignite_types.specs.Placement.{capped}
+use Rattle.ordered_set.specs.Members.{with_member}
 use Rattle.ordered_table.specs.Entries.{put}
 use Rattle.node_state.specs.declared.node.NodeState.{NodeState}
 use Rattle.node_state.specs.declared.session.Desk.{Desk}
@@ -26,7 +27,8 @@ abbrev pub first_top : TopVer
 first_top = record { major = 1; minor = 0 }
 
 abbrev pub servers_of : List Member → List NodeId
-servers_of members = map (λ (m : Member). m.node) (filter (λ (m : Member). m.server) members)
+servers_of [] = []
+servers_of (m ∷ ms) = if m.server then m.node ∷ servers_of ms else servers_of ms
 
 -- the numbers of the caches that run from the start, the first of these having this number
 abbrev pub running_from : ℕ → List Cache → List ℕ
@@ -66,13 +68,9 @@ opening_node scenario id = record {
 }
 
 -- the nodes' numbers, ascending
-abbrev pub id_in : List NodeId → NodeId → List NodeId
-id_in [] id = id ∷ []
-id_in (other ∷ more) id = if nat_lt id.0 other.0 then id ∷ other ∷ more else other ∷ id_in more id
-
 abbrev pub ids_from : List NodeId → List Member → List NodeId
-ids_from sorted [] = sorted
-ids_from sorted (member ∷ more) = ids_from (id_in sorted member.node) more
+ids_from ids [] = ids
+ids_from ids (member ∷ more) = ids_from (with_member node_cmp ids member.node) more
 
 abbrev pub ids_of : Scenario → List NodeId
 ids_of scenario = ids_from [] scenario.nodes
@@ -81,11 +79,15 @@ abbrev pub homes_from : ℕ → List (ℕ × NodeId) → List Session → List (
 homes_from number homes [] = homes
 homes_from number homes (session ∷ more) = homes_from (capped number 1) (put nat_cmp homes number session.node) more
 
+-- an empty inbox for each node
+abbrev pub opening_inboxes : List NodeId → List NodeId → List Inbox
+opening_inboxes senders ids = map (λ _. new_inbox senders) ids
+
 -- the opening world of a scenario
 abbrev pub opening : Scenario → World
 opening scenario = record {
   nodes = map (opening_node scenario) (ids_of scenario);
-  inboxes = map (λ _. new_inbox (ids_of scenario)) (ids_of scenario);
+  inboxes = opening_inboxes (ids_of scenario) (ids_of scenario);
   homes = homes_from 1 [] scenario.sessions;
   broken = false
 }

@@ -26,9 +26,9 @@ AreSteps w (g ∷ gs) = IsStep w g × AreSteps (outcome w g.event).world gs
 
 -- what the run's end says of the world in which it ends
 abbrev pub EndsAt : World → End → Type 0
-EndsAt w AllEnded = (possible w ≡ []) × (w.broken ≡ false) × (all_over w ≡ true)
-EndsAt w Stalled = (possible w ≡ []) × (w.broken ≡ false) × (all_over w ≡ false)
-EndsAt w StepLimit = w.broken ≡ false
+EndsAt w AllEnded = (possible w ≡ []) × (all_over w ≡ true)
+EndsAt w Stalled = (possible w ≡ []) × (all_over w ≡ false)
+EndsAt w StepLimit = Unit {0}
 EndsAt w Memory = Unit {0}
 
 -- the journal is the machine's own, from its scenario's opening world to its end
@@ -36,14 +36,10 @@ pub record IsLegal (j : Journal) : Type 0 where
   pub steps : AreSteps (opening j.scenario) j.groups
   pub end : EndsAt (after (opening j.scenario) j.groups) j.end
 
--- the event is the first possible one, or want of memory, which ends the run
-abbrev pub IsFirst : World → Event → List Group → Type 0
-IsFirst w (event.Memory id) rest = rest ≡ []
-IsFirst w e rest = slice_get (possible w) 0 ≡ Some e
-
+-- each event is the first of those that are possible
 abbrev pub AreFirst : World → List Group → Type 0
 AreFirst w [] = Unit {0}
-AreFirst w (g ∷ gs) = IsFirst w g.event gs × AreFirst (outcome w g.event).world gs
+AreFirst w (g ∷ gs) = (slice_get (possible w) 0 ≡ Some g.event) × AreFirst (outcome w g.event).world gs
 
 -- the schedule of first possible events
 abbrev pub IsScheduled : Journal → Type 0

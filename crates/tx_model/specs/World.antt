@@ -1,7 +1,7 @@
 -- The machine of the whole world: which events are possible, in their order, and what each does to its parts.
 use Rattle.std.specs.Prelude.{ℕ, Bool, true, false, not, ◌&&◌, List, [], ◌∷◌, ◌++◌, Option, Some, None, is_some, is_none, slice_get, slice_set, position, filter, map, if◌then◌else◌}
 use Rattle.std.specs.Option.{option_and_then}
-use Rattle.std.specs.List.{flat_map, list_all}
+use Rattle.std.specs.List.{list_all}
 use Rattle.std.specs.Ordering.{nat_cmp}
 use Rattle.ignite_types.specs.declared.journal.Event.{Event}
 use Rattle.ignite_types.specs.declared.journal.Event.TheVariants as event
@@ -129,17 +129,20 @@ sessions w = map (λ (home : ℕ × NodeId). home.0) w.homes
 abbrev pub ids : World → List NodeId
 ids w = map (λ (n : NodeState). n.me) w.nodes
 
-abbrev pub acts_of : List NodeId → NodeId → List Event
-acts_of senders id = map (event.Act id) senders
+-- those of these events that are possible
+abbrev pub possible_of : World → List Event → List Event
+possible_of w events = filter (enabled w) events
 
--- all that may come to be possible, want of memory left out, in the order of the event table
-abbrev pub candidates : World → List Event
-candidates w =
-    map event.Answer (sessions w) ++ flat_map (acts_of (ids w)) (ids w) ++ map event.Send (ids w) ++ map event.Call (sessions w)
+-- the messages that these nodes may take, each from these senders
+abbrev pub possible_acts : World → List NodeId → List NodeId → List Event
+possible_acts w senders [] = []
+possible_acts w senders (id ∷ more) = possible_of w (map (event.Act id) senders) ++ possible_acts w senders more
 
--- the possible events, in the order of the event table
+-- the possible events, want of memory left out, in the order of the event table
 abbrev pub possible : World → List Event
-possible w = filter (enabled w) (candidates w)
+possible w =
+    possible_of w (map event.Answer (sessions w)) ++ possible_acts w (ids w) (ids w)
+      ++ possible_of w (map event.Send (ids w)) ++ possible_of w (map event.Call (sessions w))
 
 -- no command is pending and none is left
 abbrev pub desk_over : Option Desk → Bool

@@ -1,0 +1,108 @@
+-- What a call of the simulator comes to: its status, its journal, and the text that is to be written.
+use Rattle.std.specs.Prelude.{◌≡◌, ◌≢◌, ℕ, List, [], Option, Some, None, Ok, Err, IfSome, length, codes, ◌++◌, ◌∷◌}
+use Rattle.ignite_types.specs.declared.journal.End.{End}
+use Rattle.ignite_types.specs.declared.journal.End.TheVariants as end
+use Rattle.ignite_types.specs.declared.journal.Journal.{Journal}
+use Rattle.ignite_types.specs.declared.journal.Status.{Status}
+use Rattle.ignite_types.specs.declared.journal.Status.TheVariants as status
+use Rattle.std.specs.Io.KnownBytes.{append_known, IsAtEnd}
+use Rattle.host_io.specs.Faults.{Faulted}
+use Rattle.host_io.specs.Sink.{AppendsPart}
+use Rattle.report_text.specs.Report.{report_of}
+use Rattle.scen_text.specs.Causes.{Refusal, refusal_text}
+use Rattle.scen_text.specs.Reading.{scenario_of}
+use Rattle.tx_model.specs.Opening.{opening}
+use Rattle.tx_model.specs.Runs.{after, AreSteps, AreFirst, IsLegal, IsScheduled}
+use Rattle.tx_model.specs.World.{possible}
+
+-- the most events of a run
+abbrev pub step_limit : ℕ
+step_limit = 1000000
+
+abbrev pub usage_text : List ℕ
+usage_text = codes "usage: txsim [--seed N] [--steps N] [--trace] [--json] [--make N [--txs N]]" ++ (10 ∷ [])
+
+abbrev pub read_fault_text : List ℕ
+read_fault_text = codes "read fault" ++ (10 ∷ [])
+
+-- what a call saw of its source: the bytes left and the count of faults, before and after
+pub record Reading : Type 0 where
+  pub before : Option (List ℕ)
+  pub after : Option (List ℕ)
+  pub faults_before : ℕ
+  pub faults_after : ℕ
+
+-- what a call did to its sink: the bytes held and the count of faults, before and after
+pub record Writing : Type 0 where
+  pub before : Option (List ℕ)
+  pub after : Option (List ℕ)
+  pub faults_before : ℕ
+  pub faults_after : ℕ
+
+-- the run of the scenario that the source's bytes mean, and its report
+pub record Ran (r : Reading) (j : Journal) (text : List ℕ) : Type 0 where
+  pub scenario : IfSome r.before (λ bytes. scenario_of bytes ≡ Ok j.scenario)
+  pub read_out : IsAtEnd r.after
+  pub legal : IsLegal j
+  pub schedule : IsScheduled j
+  pub said : text ≡ report_of j
+
+-- the limit was met with another event possible
+pub record MetLimit (j : Journal) : Type 0 where
+  pub many : length j.groups ≡ step_limit
+  pub more : possible (after (opening j.scenario) j.groups) ≢ []
+
+-- the text is refused, and this line says where and why
+pub record IsRefused (bytes text : List ℕ) : Type 0 where
+  pub refusal : Refusal
+  pub refused : scenario_of bytes ≡ Err refusal
+  pub line : text ≡ refusal_text refusal.line refusal.cause
+
+-- the groups so far are the machine's own; nothing is written
+pub record OutOfMemory (j : Journal) (text : List ℕ) : Type 0 where
+  pub steps : AreSteps (opening j.scenario) j.groups
+  pub first : AreFirst (opening j.scenario) j.groups
+  pub nothing : text ≡ []
+
+-- the words were refused before anything was read
+pub record WasUsage (r : Reading) (j : Journal) (text : List ℕ) : Type 0 where
+  pub same : r.after ≡ r.before
+  pub same_faults : r.faults_after ≡ r.faults_before
+  pub no_run : j.groups ≡ []
+  pub said : text ≡ usage_text
+
+-- what a call comes to with so many words, before it is written
+abbrev pub Comes : ℕ → Reading → Status → Journal → List ℕ → Type 0
+Comes words r status.AllEnded j text = (words ≡ 0) × Ran r j text × (j.end ≡ end.AllEnded)
+Comes words r status.Stalled j text = (words ≡ 0) × Ran r j text × (j.end ≡ end.Stalled)
+Comes words r status.StepLimit j text = (words ≡ 0) × Ran r j text × (j.end ≡ end.StepLimit) × MetLimit j
+Comes words r status.Usage j text = (words ≢ 0) × WasUsage r j text
+Comes words r status.Refused j text = (words ≡ 0) × IfSome r.before (λ bytes. IsRefused bytes text) × (j.groups ≡ [])
+Comes words r status.ReadFault j text = (words ≡ 0) × Faulted r.faults_before r.faults_after × (j.groups ≡ []) × (text ≡ read_fault_text)
+Comes words r status.Memory j text = OutOfMemory j text
+Comes words r status.WriteFault j text = ⊥
+
+-- the whole text was written
+pub record Written (words : ℕ) (r : Reading) (w : Writing) (s : Status) (j : Journal) : Type 0 where
+  pub text : List ℕ
+  pub comes : Comes words r s j text
+  pub held : w.after ≡ append_known w.before text
+
+-- a fault of the sink cut the text of another status off
+pub record CutOff (words : ℕ) (r : Reading) (w : Writing) (j : Journal) : Type 0 where
+  pub replaced : Status
+  pub text : List ℕ
+  pub comes : Comes words r replaced j text
+  pub held : AppendsPart w.before w.after text
+  pub fault : Faulted w.faults_before w.faults_after
+
+-- what a call of the simulator ends with
+abbrev pub Ends : ℕ → Reading → Writing → Status → Journal → Type 0
+Ends words r w status.WriteFault j = CutOff words r w j
+Ends words r w status.AllEnded j = Written words r w status.AllEnded j
+Ends words r w status.Stalled j = Written words r w status.Stalled j
+Ends words r w status.StepLimit j = Written words r w status.StepLimit j
+Ends words r w status.Usage j = Written words r w status.Usage j
+Ends words r w status.Refused j = Written words r w status.Refused j
+Ends words r w status.ReadFault j = Written words r w status.ReadFault j
+Ends words r w status.Memory j = Written words r w status.Memory j
