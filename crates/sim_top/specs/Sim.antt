@@ -3,6 +3,7 @@ use Rattle.std.specs.Prelude.{◌≡◌, ◌≢◌, ℕ, List, [], Option, Some,
 use Rattle.ignite_types.specs.declared.journal.End.{End}
 use Rattle.ignite_types.specs.declared.journal.End.TheVariants as end
 use Rattle.ignite_types.specs.declared.journal.Journal.{Journal}
+use Rattle.ignite_types.specs.declared.scenario.Scenario.{Scenario}
 use Rattle.ignite_types.specs.declared.journal.Status.{Status}
 use Rattle.ignite_types.specs.declared.journal.Status.TheVariants as status
 use Rattle.std.specs.Io.KnownBytes.{append_known, IsAtEnd}
@@ -10,6 +11,7 @@ use Rattle.host_io.specs.Faults.{Faulted}
 use Rattle.host_io.specs.Sink.{AppendsPart}
 use Rattle.report_text.specs.Report.{report_of}
 use Rattle.scen_text.specs.Causes.{Refusal, refusal_text}
+use Rattle.scen_text.specs.declared.cause.Cause.{Cause}
 use Rattle.scen_text.specs.Reading.{scenario_of}
 use Rattle.tx_model.specs.Opening.{opening}
 use Rattle.tx_model.specs.Runs.{after, AreSteps, AreFirst, IsLegal, IsScheduled}
@@ -39,18 +41,36 @@ pub record Writing : Type 0 where
   pub faults_before : ℕ
   pub faults_after : ℕ
 
--- the run of the scenario that the source's bytes mean, and its report
-pub record Ran (r : Reading) (j : Journal) (text : List ℕ) : Type 0 where
-  pub scenario : IfSome r.before (λ bytes. scenario_of bytes ≡ Ok j.scenario)
-  pub read_out : IsAtEnd r.after
-  pub legal : IsLegal j
-  pub schedule : IsScheduled j
-  pub said : text ≡ report_of j
-
 -- the limit was met with another event possible
 pub record MetLimit (j : Journal) : Type 0 where
   pub many : length j.groups ≡ step_limit
   pub more : possible (after (opening j.scenario) j.groups) ≢ []
+
+-- the journal is the machine's own, and follows the schedule
+pub record Follow (j : Journal) : Type 0 where
+  pub legal : IsLegal j
+  pub schedule : IsScheduled j
+
+-- the groups so far are the machine's own; nothing is written
+pub record OutOfMemory (j : Journal) (text : List ℕ) : Type 0 where
+  pub steps : AreSteps (opening j.scenario) j.groups
+  pub first : AreFirst (opening j.scenario) j.groups
+  pub nothing : text ≡ []
+
+-- what the status of a run says of its journal
+abbrev pub Runs : Status → Journal → Type 0
+Runs status.AllEnded j = Follow j × (j.end ≡ end.AllEnded)
+Runs status.Stalled j = Follow j × (j.end ≡ end.Stalled)
+Runs status.StepLimit j = Follow j × (j.end ≡ end.StepLimit) × MetLimit j
+Runs _ j = ⊥
+
+-- what a run of a scenario comes to: its report is to be written, unless memory ran out
+abbrev pub RunSays : Scenario → Status → Journal → List ℕ → Type 0
+RunSays s status.AllEnded j text = (j.scenario ≡ s) × Runs status.AllEnded j × (text ≡ report_of j)
+RunSays s status.Stalled j text = (j.scenario ≡ s) × Runs status.Stalled j × (text ≡ report_of j)
+RunSays s status.StepLimit j text = (j.scenario ≡ s) × Runs status.StepLimit j × (text ≡ report_of j)
+RunSays s status.Memory j text = OutOfMemory j text
+RunSays s _ j text = ⊥
 
 -- the text is refused, and this line says where and why
 pub record IsRefused (bytes text : List ℕ) : Type 0 where
@@ -58,11 +78,27 @@ pub record IsRefused (bytes text : List ℕ) : Type 0 where
   pub refused : scenario_of bytes ≡ Err refusal
   pub line : text ≡ refusal_text refusal.line refusal.cause
 
--- the groups so far are the machine's own; nothing is written
-pub record OutOfMemory (j : Journal) (text : List ℕ) : Type 0 where
-  pub steps : AreSteps (opening j.scenario) j.groups
-  pub first : AreFirst (opening j.scenario) j.groups
-  pub nothing : text ≡ []
+-- what a refusal comes to
+abbrev pub RefusalSays : ℕ → Cause → Status → Journal → List ℕ → Type 0
+RefusalSays line cause status.Refused j text = (text ≡ refusal_text line cause) × (j.groups ≡ [])
+RefusalSays line cause status.Memory j text = OutOfMemory j text
+RefusalSays line cause _ j text = ⊥
+
+-- what a fixed line comes to
+abbrev pub LineSays : Status → List ℕ → Status → Journal → List ℕ → Type 0
+LineSays status.Usage said status.Usage j text = (text ≡ said) × (j.groups ≡ [])
+LineSays status.ReadFault said status.ReadFault j text = (text ≡ said) × (j.groups ≡ [])
+LineSays s said status.Memory j text = OutOfMemory j text
+LineSays s said _ j text = ⊥
+
+-- what the bytes of a scenario come to
+abbrev pub Means : List ℕ → Status → Journal → List ℕ → Type 0
+Means bytes status.AllEnded j text = (scenario_of bytes ≡ Ok j.scenario) × Runs status.AllEnded j × (text ≡ report_of j)
+Means bytes status.Stalled j text = (scenario_of bytes ≡ Ok j.scenario) × Runs status.Stalled j × (text ≡ report_of j)
+Means bytes status.StepLimit j text = (scenario_of bytes ≡ Ok j.scenario) × Runs status.StepLimit j × (text ≡ report_of j)
+Means bytes status.Refused j text = IsRefused bytes text × (j.groups ≡ [])
+Means bytes status.Memory j text = OutOfMemory j text
+Means bytes _ j text = ⊥
 
 -- the words were refused before anything was read
 pub record WasUsage (r : Reading) (j : Journal) (text : List ℕ) : Type 0 where
@@ -71,14 +107,30 @@ pub record WasUsage (r : Reading) (j : Journal) (text : List ℕ) : Type 0 where
   pub no_run : j.groups ≡ []
   pub said : text ≡ usage_text
 
+-- the source was read to its end, and what its bytes mean, where it tells them, is said
+pub record WasRead (r : Reading) (s : Status) (j : Journal) (text : List ℕ) : Type 0 where
+  pub read_out : IsAtEnd r.after
+  pub means : IfSome r.before (λ bytes. Means bytes s j text)
+  pub runs : Runs s j × (text ≡ report_of j)
+
+-- the text was refused: for its bytes, or for their number
+pub record WasRefused (r : Reading) (j : Journal) (text : List ℕ) : Type 0 where
+  pub refused : IfSome r.before (λ bytes. IsRefused bytes text)
+  pub no_run : j.groups ≡ []
+
+pub record HadFault (r : Reading) (j : Journal) (text : List ℕ) : Type 0 where
+  pub fault : Faulted r.faults_before r.faults_after
+  pub no_run : j.groups ≡ []
+  pub said : text ≡ read_fault_text
+
 -- what a call comes to with so many words, before it is written
 abbrev pub Comes : ℕ → Reading → Status → Journal → List ℕ → Type 0
-Comes words r status.AllEnded j text = (words ≡ 0) × Ran r j text × (j.end ≡ end.AllEnded)
-Comes words r status.Stalled j text = (words ≡ 0) × Ran r j text × (j.end ≡ end.Stalled)
-Comes words r status.StepLimit j text = (words ≡ 0) × Ran r j text × (j.end ≡ end.StepLimit) × MetLimit j
+Comes words r status.AllEnded j text = (words ≡ 0) × WasRead r status.AllEnded j text
+Comes words r status.Stalled j text = (words ≡ 0) × WasRead r status.Stalled j text
+Comes words r status.StepLimit j text = (words ≡ 0) × WasRead r status.StepLimit j text
 Comes words r status.Usage j text = (words ≢ 0) × WasUsage r j text
-Comes words r status.Refused j text = (words ≡ 0) × IfSome r.before (λ bytes. IsRefused bytes text) × (j.groups ≡ [])
-Comes words r status.ReadFault j text = (words ≡ 0) × Faulted r.faults_before r.faults_after × (j.groups ≡ []) × (text ≡ read_fault_text)
+Comes words r status.Refused j text = (words ≡ 0) × WasRefused r j text
+Comes words r status.ReadFault j text = (words ≡ 0) × HadFault r j text
 Comes words r status.Memory j text = OutOfMemory j text
 Comes words r status.WriteFault j text = ⊥
 
