@@ -136,6 +136,13 @@ fn prints_items(rt: HostRuntime) -> Result<(), Fail> {
         )?;
         assert_eq!(rt; out.into_vec().as_slice(), text.as_bytes());
     }
+    Ok(())
+}
+
+#[test]
+fn prints_data_items(rt: HostRuntime) -> Result<(), Fail> {
+    let key = Key::read(b"k1")?;
+    let value = Value::read(b"a:b")?;
     let table = [
         (Item::Incr(key, -1), "incr c/k1 -1"),
         (Item::Next(key), "next c/k1"),
