@@ -4,8 +4,9 @@
 use host_io::{StdSink, StdSource};
 use ignite_types::Status;
 use sim_top::sim;
-use std::env;
 use std::process::ExitCode;
+use std::rt::Env;
+use std::{env, io};
 
 /// The exit code of a status.
 fn code(status: Status) -> u8 {
@@ -21,10 +22,19 @@ fn code(status: Status) -> u8 {
     }
 }
 
-fn main(rt: HostRuntime) -> ExitCode {
+/// The words of the command line, without the program's name.
+fn words(rt: &(impl Env + AllocGlobal)) -> io::Result<Vec<String>> {
     let mut words = Vec::new(rt.alloc());
+    for word in env::args(rt)?.skip(1) {
+        words.push(word)?;
+    }
+    Ok(words)
+}
+
+fn main(rt: HostRuntime) -> io::Result<ExitCode> {
+    let words = words(&rt)?;
     let mut source = StdSource::new(rt.stdin());
     let mut sink = StdSink::new(rt.stdout());
     let end = sim(rt.alloc(), words.as_slice(), &mut source, &mut sink);
-    ExitCode::from(code(end.status))
+    Ok(ExitCode::from(code(end.status)))
 }
