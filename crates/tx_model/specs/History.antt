@@ -77,13 +77,17 @@ accessed w (command.Get key) = first_read w key (at key_cmp w.reads key) (at key
 accessed w (command.Put key value) = record w { writes = put key_cmp w.writes key (Some value) }
 accessed w _ = w
 
+-- the call is answered; an access of this transaction that was done is counted
+abbrev pub answered_access : TxId → Walk → Command → Answer → Walk
+answered_access tx w c a = if (w.started == tx.number) && is_done a
+    then accessed (record w { called = None }) c
+    else record w { called = None }
+
 -- the call is answered
 abbrev pub answered_call : TxId → Walk → Command → Answer → Walk
 answered_call tx w (command.Begin mode timeout) answer.Done = record w { called = None; block = true; started = raised w.started }
 answered_call tx w command.Commit a = record w { called = None; block = false }
-answered_call tx w c a = if (w.started == tx.number) && is_done a
-    then accessed (record w { called = None }) c
-    else record w { called = None }
+answered_call tx w c a = answered_access tx w c a
 
 abbrev pub answered : TxId → Walk → Option Command → Answer → Walk
 answered tx w None a = w
