@@ -230,22 +230,14 @@ impl Walk {
         }
     }
 
-    fn walk(&mut self, tx: &TxId, recs: &[Rec]) -> Mem<()>
-        ensures { OnOk result (self.new ≡ history.walk tx.now self.old recs.now) }
-    {
-        for rec in recs {
-            self.step(tx, rec)?;
-        }
-        Ok(())
-    }
-
-    /// All records of these groups, in their order.
-    #[tactic(auto, using(crate::proofs::Walks::walk_group))]
-    pub(crate) fn walk_groups(&mut self, tx: &TxId, groups: &[Group]) -> Mem<()>
+    /// All records of these groups, walked in their order.
+    pub(crate) fn walk(&mut self, tx: &TxId, groups: &[Group]) -> Mem<()>
         ensures { OnOk result (self.new ≡ history.walk tx.now self.old (history.records groups.now)) }
     {
         for group in groups {
-            self.walk(tx, group.recs.as_slice())?;
+            for rec in group.recs.as_slice() {
+                self.step(tx, rec)?;
+            }
         }
         Ok(())
     }
