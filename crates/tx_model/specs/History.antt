@@ -77,13 +77,17 @@ accessed w (command.Get key) = first_read w key (at key_cmp w.reads key) (at key
 accessed w (command.Put key value) = record w { writes = put key_cmp w.writes key (Some value) }
 accessed w _ = w
 
+-- the call is answered; an access of this transaction that was done is counted
+abbrev pub answered_access : TxId → Walk → Command → Answer → Walk
+answered_access tx w c a = if (w.started == tx.number) && is_done a
+    then accessed (record w { called = None }) c
+    else record w { called = None }
+
 -- the call is answered
 abbrev pub answered_call : TxId → Walk → Command → Answer → Walk
 answered_call tx w (command.Begin mode timeout) answer.Done = record w { called = None; block = true; started = raised w.started }
 answered_call tx w command.Commit a = record w { called = None; block = false }
-answered_call tx w c a = if (w.started == tx.number) && is_done a
-    then accessed (record w { called = None }) c
-    else record w { called = None }
+answered_call tx w c a = answered_access tx w c a
 
 abbrev pub answered : TxId → Walk → Option Command → Answer → Walk
 answered tx w None a = w
@@ -131,12 +135,21 @@ footprint all tx = let w = walk tx fresh_walk all in entry_from tx (with_called 
 
 -- The commits: the first commit decision of each transaction, in order.
 
+-- the transaction that the record says is committed
+abbrev pub committed_in : Rec → Option TxId
+committed_in (note.Decide tx commit) = if commit then Some tx else None
+committed_in _ = None
+
+-- the commits from a record on, where it says this is committed; the last argument gives those of the later records
+abbrev pub commits_next : List Rec → List TxId → Option TxId → (List TxId → List CommitEntry) → List CommitEntry
+commits_next all seen None later = later seen
+commits_next all seen (Some tx) later = if has tx_cmp seen tx
+    then later seen
+    else footprint all tx ∷ later (with_member tx_cmp seen tx)
+
 abbrev pub commits_from : List Rec → List TxId → List Rec → List CommitEntry
 commits_from all seen [] = []
-commits_from all seen (note.Decide tx true ∷ rs) = if has tx_cmp seen tx
-    then commits_from all seen rs
-    else footprint all tx ∷ commits_from all (with_member tx_cmp seen tx) rs
-commits_from all seen (r ∷ rs) = commits_from all seen rs
+commits_from all seen (r ∷ rs) = commits_next all seen (committed_in r) (λ now_seen. commits_from all now_seen rs)
 
 abbrev pub commits : List Rec → List CommitEntry
 commits all = commits_from all [] all

@@ -2,7 +2,9 @@
 #![tactic(auto)]
 
 mod history;
+#[cfg(test)]
+mod tests;
 mod walk;
 
-pub use history::{BadRead, CommitEntry};
+pub use history::{BadRead, CommitEntry, commits, footprint, serial};
 pub use walk::Walk;
