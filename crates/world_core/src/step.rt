@@ -148,8 +148,8 @@ impl World {
         }
     }
 
-    /// One event happens, and its group is added to the journal. An event that is not possible changes nothing but the
-    /// journal. After want of memory the groups so far stay, and the world is of no further use.
+    /// One event happens, and its group is added to the journal. After want of memory the groups so far stay, and the
+    /// world is of no further use.
     pub fn step(&mut self, event: Event) -> Mem<()>
         ensures ok { OnOk result (self.new ≡ stepped self.old event) }
         ensures err { OnErr result (KeepsPast self.old self.new) }
