@@ -1,5 +1,5 @@
 -- What a run in work keeps: each event that was the first possible one adds a step of the machine.
-use Rattle.std.proofs.Common.{◌≡◌, ℕ, Bool, true, false, List, [], ◌∷◌, ◌++◌, Option, Some, None, IsTrue, slice_get, filter, map, cond, ◌&&◌, refl, sym, ◌∙◌, ap, arith, subst}
+use Rattle.std.proofs.Common.{◌≡◌, ℕ, Bool, true, false, List, [], ◌∷◌, ◌++◌, Option, Some, None, IsTrue, slice_get, filter, map, cond, ◌&&◌, length, ◌+◌, length-append, refl, sym, ◌∙◌, ap, arith, subst}
 use Rattle.std.specs.List.{list_all}
 use Rattle.ignite_types.specs.declared.journal.Event.{Event}
 use Rattle.ignite_types.specs.declared.journal.Event.TheVariants as event
@@ -92,3 +92,13 @@ past_kept r r' h k = record {
   steps = rw (k.scenario, k.past) h.past.steps;
   first = rw (k.scenario, k.past) h.past.first
 }
+
+pub none_first : {X : Type 0} (xs : List X) → None ≡ slice_get xs 0 → xs ≡ []
+none_first [] h = refl
+none_first (x ∷ xs) h = absurd (cc h)
+
+pub one_longer : (r r' : Run) (n : ℕ) → length r.past ≡ n → Advances r r' → length r'.past ≡ n + 1
+one_longer r r' n h a = rw a.is (simp length-append (omega (arith, h)))
+
+pub same_scenario : (r r' : Run) → Advances r r' → r'.scenario ≡ r.scenario
+same_scenario r r' a = ap (λ (x : Run). x.scenario) a.is

@@ -3,7 +3,7 @@
 
 mod drive;
 mod said;
-mod sim;
+mod top;
 
 pub use ignite_types::Status;
-pub use sim::{SimEnd, sim};
+pub use top::{SimEnd, sim};

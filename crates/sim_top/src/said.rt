@@ -3,14 +3,14 @@
 ghost use Rattle.std.specs.Prelude.{◌≡◌, [], length, IfOk};
 ghost use Rattle.report_text.specs.Report.{report_of};
 ghost use Rattle.world_core.specs.Run.{begun};
-ghost use Rattle.sim_top.specs.Sim.{Comes, LineSays, Means, RefusalSays, RunSays, Runs};
+ghost use Rattle.sim_top.specs.Sim.{Comes, LineSays, Means, RefusalSays, RunSays, Runs, read_fault_text, usage_text};
 
 use crate::drive::drive;
 use host_io::{ReadEnd, Source, read_all};
 use ignite_types::{End, Journal, List, Mem, NoMemory, Scenario, Status};
 use report_text::report;
 use scen_text::{Cause, ReadFault, read_scenario, refusal_line};
-use std::alloc::{AllocError, Global};
+use std::alloc::Global;
 use tx_model::commits;
 use world_core::World;
 
@@ -124,17 +124,39 @@ fn refuse(alloc: Global, line: u32, cause: Cause) -> Said
     }
 }
 
-/// A fixed line.
-fn line(alloc: Global, status: Status, text: &str) -> Said
-    ensures { LineSays status text.now result.status result.journal result.text.items }
+/// The bytes of a fixed line.
+fn line(alloc: Global, text: &str) -> Mem<Vec<u8>>
+    ensures { IfOk result (λ bytes. bytes.items ≡ text.now) }
 {
-    match Vec::from_slice(alloc, text.as_bytes()) {
+    let bytes = Vec::from_slice(alloc, text.as_bytes())?;
+    Ok(bytes)
+}
+
+/// The words are none that are known.
+fn usage(alloc: Global) -> Said
+    ensures { LineSays Status.Usage usage_text result.status result.journal result.text.items }
+{
+    match line(alloc, USAGE) {
         Ok(text) => Said {
-            status,
+            status: Status::Usage,
             journal: no_run(alloc),
             text,
         },
-        Err(AllocError) => out_of_memory(alloc, no_run(alloc)),
+        Err(NoMemory) => out_of_memory(alloc, no_run(alloc)),
+    }
+}
+
+/// The source failed.
+fn read_fault(alloc: Global) -> Said
+    ensures { LineSays Status.ReadFault read_fault_text result.status result.journal result.text.items }
+{
+    match line(alloc, READ_FAULT) {
+        Ok(text) => Said {
+            status: Status::ReadFault,
+            journal: no_run(alloc),
+            text,
+        },
+        Err(NoMemory) => out_of_memory(alloc, no_run(alloc)),
     }
 }
 
@@ -154,12 +176,12 @@ pub fn say<S: Source>(alloc: Global, words: &[String], source: &mut S) -> Said
     ensures { Comes (length words.now) (record { before = S.left source.old; after = S.left source.new; faults_before = S.faults source.old; faults_after = S.faults source.new }) result.status result.journal result.text.items }
 {
     if !words.is_empty() {
-        return line(alloc, Status::Usage, USAGE);
+        return usage(alloc);
     }
     match read_all(alloc, source) {
         Ok(bytes) => meaning(alloc, bytes.as_slice()),
         Err(ReadEnd::TooLong) => refuse(alloc, 0, Cause::TooLong),
-        Err(ReadEnd::Fault) => line(alloc, Status::ReadFault, READ_FAULT),
+        Err(ReadEnd::Fault) => read_fault(alloc),
         Err(ReadEnd::NoMemory) => out_of_memory(alloc, no_run(alloc)),
     }
 }
