@@ -10,7 +10,7 @@ use Rattle.tx_model.specs.Opening.{opening}
 use Rattle.tx_model.specs.Runs.{after, IsStep, AreSteps, AreFirst}
 use Rattle.tx_model.specs.World.{World, outcome, enabled, possible, possible_of, possible_acts, ids, sessions}
 use Rattle.world_core.specs.Run.{Run, begun, stepped, KeepsPast}
-use Rattle.sim_top.specs.Drive.{PastFollows, Follows, Advances}
+use Rattle.sim_top.specs.Drive.{PastFollows, Follows, Advances, Moves}
 
 all_of_filter : {X : Type 0} (p : X → Bool) (xs : List X) → list_all p (filter p xs) ≡ true
 all_of_filter p [] = refl
@@ -102,3 +102,7 @@ one_longer r r' n h a = rw a.is (simp length-append (omega (arith, h)))
 
 pub same_scenario : (r r' : Run) → Advances r r' → r'.scenario ≡ r.scenario
 same_scenario r r' a = ap (λ (x : Run). x.scenario) a.is
+
+pub moved : (b : Bool) (r r' : Run) → b ≡ true → Moves b r r' → Advances r r'
+moved true r r' h m = m
+moved false r r' h m = absurd (cc h)

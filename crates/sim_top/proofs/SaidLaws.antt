@@ -1,5 +1,5 @@
 -- What a call comes to, put together from its parts, status by status.
-use Rattle.std.proofs.Common.{◌≡◌, ℕ, List, [], Option, Some, None, Ok, IfSome, refl, sym, ◌∙◌, subst}
+use Rattle.std.proofs.Common.{◌≡◌, ℕ, ◌<◌, List, [], length, Option, Some, None, Ok, Err, IfSome, refl, sym, ◌∙◌, subst}
 use Rattle.ignite_types.specs.declared.journal.Journal.{Journal}
 use Rattle.ignite_types.specs.declared.journal.Status.{Status}
 use Rattle.ignite_types.specs.declared.journal.Status.TheVariants as status
@@ -9,7 +9,10 @@ use Rattle.host_io.specs.Faults.{Faulted}
 use Rattle.host_io.specs.Sink.{AppendsPart}
 use Rattle.report_text.specs.Report.{report_of}
 use Rattle.scen_text.specs.Reading.{scenario_of}
-use Rattle.sim_top.specs.Sim.{Runs, RunSays, OutOfMemory, Follow, Means, Comes, Ends, Written, CutOff, Reading, Writing, WasRead}
+use Rattle.scen_text.specs.Causes.{refusal_text}
+use Rattle.scen_text.specs.declared.cause.Cause.TheVariants.{TooLong}
+use Rattle.std.proofs.lemmas.Bool.{lt-ltb}
+use Rattle.sim_top.specs.Sim.{IsRefused, RefusalSays, Runs, RunSays, OutOfMemory, Follow, Means, Comes, Ends, Written, CutOff, Reading, Writing, WasRead}
 
 -- a run that is told is what it says
 pub runs_told : (s : Status) (j : Journal) (text : List ℕ) → Runs s j → text ≡ report_of j → RunSays j.scenario s j text
@@ -54,3 +57,21 @@ all_written words r w status.Refused j text comes held = record { text = text; c
 all_written words r w status.Memory j text comes held = record { text = text; comes = comes; held = held }
 all_written words r w status.ReadFault j text comes held = record { text = text; comes = comes; held = held }
 all_written words r w status.WriteFault j text comes held = absurd comes
+
+-- a text of too many bytes is refused as such
+too_long : (bytes : List ℕ) → 1048576 < length bytes → scenario_of bytes ≡ Err (record { line = 0; cause = TooLong })
+too_long bytes more = rw (lt-ltb 1048576 (length bytes) more) refl
+
+too_long_refused : (before : Option (List ℕ)) (text : List ℕ) → IfSome before (λ bytes. 1048576 < length bytes) → text ≡ refusal_text 0 TooLong → IfSome before (λ bytes. IsRefused bytes text)
+too_long_refused None text more said = tt
+too_long_refused (Some bytes) text more said = record { refusal = record { line = 0; cause = TooLong }; refused = too_long bytes more; line = said }
+
+pub too_long_comes : (words : ℕ) (r : Reading) (s : Status) (j : Journal) (text : List ℕ) → words ≡ 0 → IfSome r.before (λ bytes. 1048576 < length bytes) → RefusalSays 0 TooLong s j text → Comes words r s j text
+too_long_comes words r status.AllEnded j text none more says = absurd says
+too_long_comes words r status.Stalled j text none more says = absurd says
+too_long_comes words r status.StepLimit j text none more says = absurd says
+too_long_comes words r status.Usage j text none more says = absurd says
+too_long_comes words r status.Refused j text none more says = (none, record { refused = too_long_refused r.before text more says.0; no_run = says.1 })
+too_long_comes words r status.Memory j text none more says = says
+too_long_comes words r status.ReadFault j text none more says = absurd says
+too_long_comes words r status.WriteFault j text none more says = absurd says
