@@ -105,7 +105,7 @@ abbrev pub prepare_outs : NodeState → TxId → TopVer → TxEntry → List Sha
 prepare_outs s tx top entry shares [] = []
 prepare_outs s tx top entry shares (node ∷ more) =
     record { to = node; msg = msg.Prepare tx top entry.mode shares (wanted_at s entry node entry.keys) (writes_at s node entry.writes) }
-      ∷ prepare_outs s tx top entry shares more
+    ∷ prepare_outs s tx top entry shares more
 
 -- Finish, to each of these primaries
 abbrev pub finish_outs : TxId → Bool → List NodeId → List Out

@@ -52,7 +52,7 @@ drawn_up_to order (w ∷ ws) = drawn_up_to (raised order) ws
 abbrev pub preparing : NodeState → TxId → TopVer → List Share → List (Key × Option (List ℕ)) → NodeState
 preparing s tx top shares writes =
     with_share (record s { order = drawn_up_to s.order writes }) tx
-      (record { top = top; shares = shares; writes = drawn top s.me s.order writes; state = Preparing; awaited = []; askers = [] })
+    (record { top = top; shares = shares; writes = drawn top s.me s.order writes; state = Preparing; awaited = []; askers = [] })
 
 abbrev pub prepare_row : NodeState → TxId → TopVer → List Share → List (Key × Option (List ℕ)) → NodeState
 prepare_row s tx top shares writes = preparing (forgetting s tx) tx top shares writes

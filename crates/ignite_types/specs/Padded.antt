@@ -23,5 +23,5 @@ pub IsPadded-new : (room : ℕ) (text : List ℕ) → length text ≤ room → I
 IsPadded-new room text h = record {
   fits = h;
   whole = simp (length-append, length-replicate) (omega arith);
-  zeros = ap (padded room) (take-append_seam text (replicate (room - length text) 0))
+  zeros = ap (padded room) (take-append_seam text (replicate (room - length text) 0));
 }

@@ -13,7 +13,10 @@ pub enum Fail {
         has: CacheVersion,
     },
     /// Another transaction holds the key.
-    Candidate { key: Key, holder: TxId },
+    Candidate {
+        key: Key,
+        holder: TxId,
+    },
 }
 
 /// Why a transaction was rolled back without being asked to.

@@ -16,7 +16,9 @@ pub use answer::{Answer, Fail, Fault};
 pub use journal::{Effect, End, Event, Group, Journal, NoLoss, Rec, Status, TopoEvent};
 pub use list::List;
 pub use memory::{Mem, NoMemory};
-pub use message::{Edge, Found, HeldShare, Message, Orphan, Out, Single, Stored, Wait, Waiters, Wanted};
+pub use message::{
+    Edge, Found, HeldShare, Message, Orphan, Out, Single, Stored, Wait, Waiters, Wanted,
+};
 pub use names::{CacheVersion, NodeId, TopVer, TxId};
 pub use placement::{PartMap, Row, Share, ShareState};
 pub use scenario::{Cache, Command, Item, Member, Mode, PlanStep, Scenario, Session, Step};

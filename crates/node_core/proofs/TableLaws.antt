@@ -13,7 +13,7 @@ use Rattle.ordered_table.proofs.Laws as laws
 pub tx_total : IsTotalOrder tx_cmp
 tx_total =
     then_total (on_total (λ (t : TxId). t.node.0) nat_cmp_total)
-      (then_total (on_total (λ (t : TxId). t.session) nat_cmp_total) (on_total (λ (t : TxId). t.number) nat_cmp_total))
+    (then_total (on_total (λ (t : TxId). t.session) nat_cmp_total) (on_total (λ (t : TxId). t.number) nat_cmp_total))
 
 pub key_total : IsTotalOrder key_cmp
 key_total = then_total (on_total (λ (k : Key). k.cache) nat_cmp_total) (on_total (λ (k : Key). k.text) nat_list_cmp_total)

@@ -34,7 +34,13 @@ impl Node {
         match message {
             Message::Lock { tx, top, key } => self.on_lock(from, *tx, *top, *key),
             Message::LockOk { tx, key, found } => self.on_lock_ok(*tx, key, found),
-            Message::Prepare { tx, top, shares, writes, .. } => self.on_prepare(*tx, *top, shares.as_slice(), writes.as_slice()),
+            Message::Prepare {
+                tx,
+                top,
+                shares,
+                writes,
+                ..
+            } => self.on_prepare(*tx, *top, shares.as_slice(), writes.as_slice()),
             Message::Prepared { tx } => self.on_prepared(from, *tx),
             Message::Finish { tx, commit } => self.on_finish(from, *tx, *commit),
             Message::Finished { tx } => self.on_finished(from, *tx),

@@ -26,7 +26,10 @@ fn closing_answer(state: TxState, outcome: &Option<Answer>) -> Answer
 fn is_start(command: &Command) -> bool
     ensures { result ≡ is_start command.now }
 {
-    matches!(command, Command::Get(_) | Command::Put(_, _) | Command::Commit)
+    matches!(
+        command,
+        Command::Get(_) | Command::Put(_, _) | Command::Commit
+    )
 }
 
 impl Node {

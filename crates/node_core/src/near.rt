@@ -7,7 +7,10 @@ ghost use Rattle.act_rows.specs.Steps.{entry_of, primary_of};
 ghost use Rattle.act_rows.specs.NearSide.{access_done, accesses, answer_of, commits, decided_state, decides, does, finish_outs, is_at, known, new_key, no_cache, prepare_outs, read_of, shares_from, shares_of, value_at, value_before, version_read, wanted_at, with_row_of, with_shares, writes_at};
 
 use crate::node::Node;
-use ignite_types::{Answer, CacheVersion, Command, Found, Key, List, Mem, Message, NodeId, Out, PartMap, Rec, Row, Share, TopVer, TxId, Value, Wanted};
+use ignite_types::{
+    Answer, CacheVersion, Command, Found, Key, List, Mem, Message, NodeId, Out, PartMap, Rec, Row,
+    Share, TopVer, TxId, Value, Wanted,
+};
 use node_state::{Read, TxEntry, TxState};
 use ordered_set::Set;
 use std::alloc::Global;
@@ -70,7 +73,11 @@ fn answer_of(found: &Option<Value>) -> Answer
 fn decided_state(commit: bool) -> TxState
     ensures { result ≡ decided_state commit }
 {
-    if commit { TxState::Committing } else { TxState::RollingBack }
+    if commit {
+        TxState::Committing
+    } else {
+        TxState::RollingBack
+    }
 }
 
 /// Finish, to each of these primaries.
@@ -80,7 +87,10 @@ fn finish_outs(alloc: Global, tx: TxId, commit: bool, nodes: &[NodeId]) -> Mem<L
     let mut outs = List::new(alloc);
     for node in nodes {
         let to = *node;
-        outs.push(Out { to, msg: Message::Finish { tx, commit } })?;
+        outs.push(Out {
+            to,
+            msg: Message::Finish { tx, commit },
+        })?;
     }
     Ok(outs)
 }
@@ -157,7 +167,11 @@ impl Node {
     }
 
     /// The primary's written keys with their last writes.
-    fn writes_at(&self, node: NodeId, all: &[(Key, Option<Value>)]) -> Mem<List<(Key, Option<Value>)>>
+    fn writes_at(
+        &self,
+        node: NodeId,
+        all: &[(Key, Option<Value>)],
+    ) -> Mem<List<(Key, Option<Value>)>>
         ensures { IfOk result (λ writes. writes ≡ writes_at self.now node all.now) }
     {
         let mut writes = List::new(self.alloc);
@@ -170,7 +184,14 @@ impl Node {
     }
 
     /// Prepare, to each of these primaries.
-    fn prepare_outs(&self, tx: TxId, top: TopVer, entry: &TxEntry, shares: &[Share], nodes: &[NodeId]) -> Mem<List<Out>>
+    fn prepare_outs(
+        &self,
+        tx: TxId,
+        top: TopVer,
+        entry: &TxEntry,
+        shares: &[Share],
+        nodes: &[NodeId],
+    ) -> Mem<List<Out>>
         ensures { IfOk result (λ outs. outs ≡ prepare_outs self.now tx top entry.now shares.now nodes.now) }
     {
         let mut outs = List::new(self.alloc);
@@ -271,7 +292,14 @@ impl Node {
     }
 
     /// An access of a key that is new to the transaction: too many keys, or its primary is asked for the lock.
-    fn new_key(&mut self, tx: TxId, top: TopVer, key: &Key, primary: NodeId, count: usize) -> Mem<()>
+    fn new_key(
+        &mut self,
+        tx: TxId,
+        top: TopVer,
+        key: &Key,
+        primary: NodeId,
+        count: usize,
+    ) -> Mem<()>
         ensures { OnOk result (self.new ≡ new_key self.old tx top key.now primary count) }
     {
         if MOST_KEYS <= count {
@@ -282,7 +310,14 @@ impl Node {
     }
 
     /// An access of a transaction whose version is fixed.
-    fn access_key(&mut self, tx: TxId, top: TopVer, block: bool, command: &Command, key: &Key) -> Mem<()>
+    fn access_key(
+        &mut self,
+        tx: TxId,
+        top: TopVer,
+        block: bool,
+        command: &Command,
+        key: &Key,
+    ) -> Mem<()>
         ensures { OnOk result (self.new ≡ accesses self.old tx top block command.now key.now (primary_of self.old key.now) (entry_of self.old tx)) }
     {
         let Some(entry) = self.entry(&tx) else {

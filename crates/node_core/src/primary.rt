@@ -7,7 +7,10 @@ ghost use Rattle.act_rows.specs.Steps.{share_of, with_share};
 ghost use Rattle.node_core.specs.Taking.{TakesNoShare, TakesShare, vacant_share};
 
 use crate::node::Node;
-use ignite_types::{CacheVersion, Key, List, Mem, Message, NodeId, Out, Rec, Share, ShareState, Stored, TopVer, TxId, Value};
+use ignite_types::{
+    CacheVersion, Key, List, Mem, Message, NodeId, Out, Rec, Share, ShareState, Stored, TopVer,
+    TxId, Value,
+};
 use node_state::OwnShare;
 use ordered_set::Set;
 use ordered_table::Table;
@@ -67,7 +70,11 @@ fn due_shares(alloc: Global, shares: &Table<TxId, OwnShare>) -> Mem<List<TxId>>
 {
     let mut due = List::new(alloc);
     for (tx, share) in shares.as_slice() {
-        if is_due(share.awaited.as_slice(), share.askers.as_slice(), share.state) {
+        if is_due(
+            share.awaited.as_slice(),
+            share.askers.as_slice(),
+            share.state,
+        ) {
             due.push(*tx)?;
         }
     }
@@ -81,7 +88,10 @@ fn finished_outs(alloc: Global, tx: TxId, nodes: &[NodeId]) -> Mem<List<Out>>
     let mut outs = List::new(alloc);
     for node in nodes {
         let to = *node;
-        outs.push(Out { to, msg: Message::Finished { tx } })?;
+        outs.push(Out {
+            to,
+            msg: Message::Finished { tx },
+        })?;
     }
     Ok(outs)
 }
@@ -188,7 +198,11 @@ impl Node {
         for (key, value) in writes {
             order = order.saturating_add(1);
             let ver = CacheVersion { top, order, node };
-            entries.push(Stored { key: *key, value: *value, ver })?;
+            entries.push(Stored {
+                key: *key,
+                value: *value,
+                ver,
+            })?;
         }
         Ok((entries, order))
     }
@@ -227,7 +241,14 @@ impl Node {
             let new = write.value;
             let ver = write.ver;
             let key = write.key;
-            self.note(Rec::Apply { tx, top, primary, key, new, ver })?;
+            self.note(Rec::Apply {
+                tx,
+                top,
+                primary,
+                key,
+                new,
+                ver,
+            })?;
         }
         Ok(())
     }

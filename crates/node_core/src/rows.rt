@@ -26,7 +26,15 @@ pub(crate) fn next_of(desk: &Desk) -> Option<Command>
 
 impl Node {
     /// The command that waits for a lock is done.
-    fn locked(&mut self, tx: TxId, top: TopVer, block: bool, key: &Key, found: &Found, pending: &Option<Command>) -> Mem<()>
+    fn locked(
+        &mut self,
+        tx: TxId,
+        top: TopVer,
+        block: bool,
+        key: &Key,
+        found: &Found,
+        pending: &Option<Command>,
+    ) -> Mem<()>
         ensures { OnOk result (self.new ≡ locked self.old tx top block key.now found.now pending.now) }
     {
         match pending {
@@ -137,7 +145,14 @@ impl Node {
     }
 
     /// An access: of the open transaction, or of a new one for itself.
-    fn access(&mut self, session: u32, started: u64, block: bool, command: &Command, tx: Option<TxId>) -> Mem<()>
+    fn access(
+        &mut self,
+        session: u32,
+        started: u64,
+        block: bool,
+        command: &Command,
+        tx: Option<TxId>,
+    ) -> Mem<()>
         ensures { OnOk result (self.new ≡ access self.old session started block command.now tx) }
     {
         match tx {
@@ -159,7 +174,14 @@ impl Node {
         }
     }
 
-    fn command(&mut self, session: u32, started: u64, block: bool, tx: Option<TxId>, command: &Command) -> Mem<()>
+    fn command(
+        &mut self,
+        session: u32,
+        started: u64,
+        block: bool,
+        tx: Option<TxId>,
+        command: &Command,
+    ) -> Mem<()>
         ensures { OnOk result (self.new ≡ command_row self.old session started block tx command.now) }
     {
         match command {

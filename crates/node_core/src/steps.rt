@@ -8,7 +8,9 @@ ghost use Rattle.node_core.specs.Taking.{TakesDesk, TakesEntry, TakesNoDesk, Tak
 ghost use Rattle.act_rows.specs.NearSide.{begins_phase, ended, fixes_version, keeps_read, keeps_write, no_longer, takes_outcome, takes_state, touches};
 
 use crate::node::Node;
-use ignite_types::{Answer, Command, Key, List, Mem, Message, Mode, NodeId, Out, Rec, TopVer, TxId, Value};
+use ignite_types::{
+    Answer, Command, Key, List, Mem, Message, Mode, NodeId, Out, Rec, TopVer, TxId, Value,
+};
 use node_state::{Desk, Read, TxEntry, TxState};
 use ordered_set::Set;
 use ordered_table::Table;
@@ -181,7 +183,11 @@ impl Node {
         ensures { MatchOption result (TakesNoEntry self.old self.new tx) (TakesEntry self.old self.new tx) }
     {
         if self.state.txs.get(&tx).is_some() {
-            Some(self.state.txs.replace(tx, new_entry(self.alloc, Mode::Pessimistic)))
+            Some(
+                self.state
+                    .txs
+                    .replace(tx, new_entry(self.alloc, Mode::Pessimistic)),
+            )
         } else {
             None
         }

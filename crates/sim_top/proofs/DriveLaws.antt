@@ -32,7 +32,7 @@ all_acts : (w : World) (senders nodes : List NodeId) → list_all (enabled w) (p
 all_acts w senders [] = refl
 all_acts w senders (id ∷ more) =
     all_of_append (enabled w) (possible_of w (map (event.Act id) senders)) (possible_acts w senders more)
-      (all_of_filter (enabled w) (map (event.Act id) senders)) (all_acts w senders more)
+    (all_of_filter (enabled w) (map (event.Act id) senders)) (all_acts w senders more)
 
 -- each possible event is enabled
 pub all_possible : (w : World) → list_all (enabled w) (possible w) ≡ true
@@ -42,10 +42,10 @@ all_possible w =
     let sends = possible_of w (map event.Send (ids w)) in
     let calls = possible_of w (map event.Call (sessions w)) in
     all_of_append (enabled w) (answers ++ acts ++ sends) calls
-      (all_of_append (enabled w) (answers ++ acts) sends
-        (all_of_append (enabled w) answers acts (all_of_filter (enabled w) (map event.Answer (sessions w))) (all_acts w (ids w) (ids w)))
-        (all_of_filter (enabled w) (map event.Send (ids w))))
-      (all_of_filter (enabled w) (map event.Call (sessions w)))
+    (all_of_append (enabled w) (answers ++ acts) sends
+    (all_of_append (enabled w) answers acts (all_of_filter (enabled w) (map event.Answer (sessions w))) (all_acts w (ids w) (ids w)))
+    (all_of_filter (enabled w) (map event.Send (ids w))))
+    (all_of_filter (enabled w) (map event.Call (sessions w)))
 
 and_left : (a b : Bool) → (a && b) ≡ true → a ≡ true
 and_left true b h = refl
@@ -79,9 +79,9 @@ follows_stepped r e h first =
     record {
       past = record {
         steps = steps_append (opening r.scenario) r.past g h.past.steps (subst (λ (w : World). IsStep w g) h.now step);
-        first = first_append (opening r.scenario) r.past g h.past.first (subst (λ (w : World). slice_get (possible w) 0 ≡ Some e) h.now first)
+        first = first_append (opening r.scenario) r.past g h.past.first (subst (λ (w : World). slice_get (possible w) 0 ≡ Some e) h.now first);
       };
-      now = ap (λ (w : World). (outcome w e).world) h.now ∙ sym (after_append (opening r.scenario) r.past g)
+      now = ap (λ (w : World). (outcome w e).world) h.now ∙ sym (after_append (opening r.scenario) r.past g);
     }
 
 pub follows_next : (r r' : Run) → Follows r → Advances r r' → Follows r'
@@ -90,7 +90,7 @@ follows_next r r' h a = subst (λ (x : Run). Follows x) (sym a.is) (follows_step
 pub past_kept : (r r' : Run) → Follows r → KeepsPast r r' → PastFollows r'
 past_kept r r' h k = record {
   steps = rw (k.scenario, k.past) h.past.steps;
-  first = rw (k.scenario, k.past) h.past.first
+  first = rw (k.scenario, k.past) h.past.first;
 }
 
 pub none_first : {X : Type 0} (xs : List X) → None ≡ slice_get xs 0 → xs ≡ []

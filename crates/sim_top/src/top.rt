@@ -17,7 +17,12 @@ pub struct SimEnd {
 
 /// Reads a scenario from the source, runs it by always taking the first possible event, and writes the report to the
 /// sink. Any word is answered by the usage line.
-pub fn sim<S: Source, K: Sink>(alloc: Global, words: &[String], source: &mut S, sink: &mut K) -> SimEnd
+pub fn sim<S: Source, K: Sink>(
+    alloc: Global,
+    words: &[String],
+    source: &mut S,
+    sink: &mut K,
+) -> SimEnd
     ensures { Ends (length words.now)
         (record { before = S.left source.old; after = S.left source.new; faults_before = S.faults source.old; faults_after = S.faults source.new })
         (record { before = K.held sink.old; after = K.held sink.new; faults_before = K.faults sink.old; faults_after = K.faults sink.new })

@@ -64,7 +64,7 @@ opening_node scenario id = record {
   order = 0;
   shares = [];
   outbox = [];
-  noted = []
+  noted = [];
 }
 
 -- the nodes' numbers, ascending
@@ -89,5 +89,5 @@ opening scenario = record {
   nodes = map (opening_node scenario) (ids_of scenario);
   inboxes = opening_inboxes (ids_of scenario) (ids_of scenario);
   homes = homes_from 1 [] scenario.sessions;
-  broken = false
+  broken = false;
 }

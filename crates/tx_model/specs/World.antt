@@ -142,7 +142,7 @@ possible_acts w senders (id ∷ more) = possible_of w (map (event.Act id) sender
 abbrev pub possible : World → List Event
 possible w =
     possible_of w (map event.Answer (sessions w)) ++ possible_acts w (ids w) (ids w)
-      ++ possible_of w (map event.Send (ids w)) ++ possible_of w (map event.Call (sessions w))
+    ++ possible_of w (map event.Send (ids w)) ++ possible_of w (map event.Call (sessions w))
 
 -- no command is pending and none is left
 abbrev pub desk_over : Option Desk → Bool

@@ -1,5 +1,8 @@
 use crate::{BadRead, CommitEntry, commits, footprint, serial};
-use ignite_types::{Answer, Command, End, Event, Group, Journal, Key, List, Mem, Message, NodeId, Rec, Scenario, TopVer, TxId, Value};
+use ignite_types::{
+    Answer, Command, End, Event, Group, Journal, Key, List, Mem, Message, NodeId, Rec, Scenario,
+    TopVer, TxId, Value,
+};
 use std::alloc::Global;
 use std::test::Fail;
 
@@ -41,7 +44,11 @@ fn serial_is_the_map_or_the_first_bad_read(rt: HostRuntime) -> Result<(), Fail> 
     let place = BadRead { place: 1, key };
     assert!(rt; serial(alloc, bad.as_slice())? == Err(place));
     let gone = [entry(alloc, 1, &[(key, None)], &[(key, None)])?];
-    assert!(rt; serial(alloc, gone.as_slice())?.map_err(|_| "a bad read")?.is_empty());
+    assert!(rt;
+        serial(alloc, gone.as_slice())?
+            .map_err(|_| "a bad read")?
+            .is_empty()
+    );
     assert!(rt; serial(alloc, &[])?.map_err(|_| "a bad read")?.is_empty());
     Ok(())
 }

@@ -7,7 +7,6 @@ ghost use Rattle.tx_model.specs.World.{all_over, can_be, enabled, home_of, ids, 
 
 use crate::world::World;
 use ignite_types::{Event, List, Mem, NodeId};
-
 use node_core::Node;
 
 impl World {

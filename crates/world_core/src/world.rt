@@ -30,9 +30,9 @@ impl Model for World {
     ghost Value = { Run };
 
     ghost view = { λ w. record {
-        scenario = w.scenario;
-        now = record { nodes = w.nodes.items; inboxes = w.inboxes.items; homes = w.homes; broken = w.broken };
-        past = w.groups
+      scenario = w.scenario;
+      now = record { nodes = w.nodes.items; inboxes = w.inboxes.items; homes = w.homes; broken = w.broken };
+      past = w.groups;
     } };
 }
 

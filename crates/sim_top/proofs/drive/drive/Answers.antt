@@ -10,5 +10,5 @@ loop-done-preserved c =
     record {
       follows = follows_next _ _ c.loop-done.invariant.follows a;
       scenario = same_scenario _ _ a ∙ c.loop-done.invariant.scenario;
-      count = one_longer _ _ _ c.loop-done.invariant.count a
+      count = one_longer _ _ _ c.loop-done.invariant.count a;
     }

@@ -6,5 +6,5 @@ abbrev pub invariant-loop-done : goal.invariant-loop-done
 invariant-loop-done l = record {
   follows : Follows l.world;
   scenario : l.world.scenario ≡ l.fn.world.scenario;
-  count : length l.world.past ≡ l._done
+  count : length l.world.past ≡ l._done;
 }

@@ -7,4 +7,4 @@ pub replace-vacant-requires : goal.replace-vacant-requires
 replace-vacant-requires c =
     let vacant : Link = record { held = false; messages = [] } in
     rw (ap (λ (i : Inbox). i.links) (c.self.view_is ∙ c.in-Some.ensures.vacant))
-      (node_put_there c.args.self.now.links c.args.from vacant)
+    (node_put_there c.args.self.now.links c.args.from vacant)

@@ -7,5 +7,5 @@ use Rattle.world_core.proofs.world.World.add_acts.Goals as goal
 pub loop-node-preserved : goal.loop-node-preserved
 loop-node-preserved c =
     acts_more c.args.self.now.now (ids c.args.self.now.now) c.as_slice-node-items.result.now c.loop-node.node-index c.node-item.result
-      _ _ _ c.me.result c.loop-node-test.true (c.me.ensures ∙ ap (λ (n : NodeState). n.me) c.node-item.is)
-      c.in_ok-add_acts_of.ensures c.loop-node.invariant
+    _ _ _ c.me.result c.loop-node-test.true (c.me.ensures ∙ ap (λ (n : NodeState). n.me) c.node-item.is)
+    c.in_ok-add_acts_of.ensures c.loop-node.invariant

@@ -7,4 +7,4 @@ use Rattle.world_core.proofs.world.World.add_sends.Given as goal
 abbrev pub invariant-loop-node : goal.invariant-loop-node
 invariant-loop-node l =
     l.events ++ possible_of l.self.now (map event.Send (map (λ (n : NodeState). n.me) (drop l.node-index l.node-items)))
-      ≡ l.initial.events ++ possible_of l.self.now (map event.Send (map (λ (n : NodeState). n.me) l.node-items))
+    ≡ l.initial.events ++ possible_of l.self.now (map event.Send (map (λ (n : NodeState). n.me) l.node-items))

@@ -7,4 +7,4 @@ use Rattle.world_core.proofs.world.World.all_over.Given as goal
 abbrev pub invariant-loop-session : goal.invariant-loop-session
 invariant-loop-session l =
     list_all (λ session. session_over (node_at l.self.now (home_of l.self.now session)) session) (map (λ (home : ℕ × NodeId). home.0) (drop l.session-index l.session-items))
-      ≡ all_over l.self.now
+    ≡ all_over l.self.now
