@@ -57,7 +57,7 @@ fresh_walk = record {
   over = false;
   committed = false;
   reads = [];
-  writes = []
+  writes = [];
 }
 
 -- a command is called; an access outside a block is a transaction of its own

@@ -53,13 +53,7 @@ fn committed(rec: &Rec) -> Option<TxId>
     ensures { result ≡ history.committed_in rec.now }
 {
     match rec {
-        Rec::Decide { tx, commit } => {
-            if *commit {
-                Some(*tx)
-            } else {
-                None
-            }
-        }
+        Rec::Decide { tx, commit } => { if *commit { Some(*tx) } else { None } }
         _ => None,
     }
 }

@@ -183,7 +183,11 @@ impl Walk {
         ensures { OnOk result (self.new ≡ history.delivered tx.now self.old message.now) }
     {
         match message {
-            Message::LockOk { tx: asker, key, found } => {
+            Message::LockOk {
+                tx: asker,
+                key,
+                found,
+            } => {
                 if same_tx(asker, tx) && !self.over {
                     self.find(key, value_found(found))
                 } else {
@@ -219,7 +223,10 @@ impl Walk {
                 }
                 Ok(())
             }
-            Rec::Decide { tx: decided, commit } => {
+            Rec::Decide {
+                tx: decided,
+                commit,
+            } => {
                 if same_tx(decided, tx) {
                     self.over = true;
                     self.committed = *commit;

@@ -8,4 +8,4 @@ invariant-loop-group l = walk l.tx l.self (records (drop l.group-index l.groups)
 abbrev pub invariant-loop-rec : goal.invariant-loop-rec
 invariant-loop-rec l =
     walk l.tx l.self (drop l.rec-index l.rec-items ++ records (drop (l.group-index + 1) l.groups))
-      ≡ walk l.tx l.fn.self (records l.groups)
+    ≡ walk l.tx l.fn.self (records l.groups)
