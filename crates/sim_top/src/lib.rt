@@ -3,6 +3,8 @@
 
 mod drive;
 mod said;
+#[cfg(test)]
+mod tests;
 mod top;
 
 pub use ignite_types::Status;
