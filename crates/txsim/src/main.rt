@@ -1,6 +1,9 @@
 //! txsim: runs a scenario from standard input and prints its report.
 #![tactic(auto)]
 
+ghost use Rattle.std.specs.Prelude.{◌≡◌};
+ghost use Rattle.txsim.specs.Codes.{exit_code};
+
 use host_io::{StdSink, StdSource};
 use ignite_types::Status;
 use sim_top::sim;
@@ -9,7 +12,9 @@ use std::rt::Env;
 use std::{env, io};
 
 /// The exit code of a status.
-fn code(status: Status) -> u8 {
+fn code(status: Status) -> u8
+    ensures { result ≡ exit_code status }
+{
     match status {
         Status::AllEnded => 0,
         Status::Stalled => 1,
