@@ -1,9 +1,15 @@
+pub mod Accesses
 pub mod Acts
+pub mod Backups
 pub mod Closing
 pub mod Commands
-pub mod Links
+pub mod Decisions
+pub mod Exchange
+pub mod Filling
 pub mod Locks
-pub mod NearSide
 pub mod Primary
+pub mod Recovery
+pub mod Searches
+pub mod Starts
 pub mod Steps
 pub mod Stores

@@ -1,38 +1,25 @@
--- Locks at a primary: the queue of each key, the row of Lock, and the release of a transaction's places.
-use Rattle.std.specs.Prelude.{ℕ, Bool, true, false, List, [], ◌∷◌, ◌++◌, Option, Some, None, length, ◌==◌, not, filter, slice_get, if◌then◌else◌, unwrap_or}
-use Rattle.std.specs.Option.{option_map}
-use Rattle.ignite_types.specs.declared.journal.Rec.TheVariants as note
-use Rattle.ignite_types.specs.declared.message.Message.TheVariants as msg
+-- Locks at a primary: the row of Lock, the release of a transaction's places, and the row of Get.
+use Rattle.std.specs.Prelude.{Bool, None, Option, Some, [], false, true, ℕ, ◌∷◌}
+use Rattle.act_rows.specs.Steps.{installed_top, noting, sent}
+use Rattle.act_rows.specs.Stores.{found_at}
+use Rattle.base_words.specs.NearEntries.{with_reader}
+use Rattle.base_words.specs.Queues.{edges_of, enqueued_in, keys_of, left_in, owner_in}
+use Rattle.ignite_types.specs.Names.{same_tx}
+use Rattle.ignite_types.specs.declared.list.List.{List}
+use Rattle.ignite_types.specs.declared.message.Wanted.{Wanted}
 use Rattle.ignite_types.specs.declared.names.NodeId.{NodeId}
 use Rattle.ignite_types.specs.declared.names.TopVer.{TopVer}
 use Rattle.ignite_types.specs.declared.names.TxId.{TxId}
 use Rattle.ignite_types.specs.declared.text.Key.{Key}
-use Rattle.ignite_types.specs.Names.{key_cmp, same_tx}
-use Rattle.ordered_table.specs.Entries.{at, put, without}
 use Rattle.node_state.specs.declared.node.NodeState.{NodeState}
-use Rattle.act_rows.specs.Steps.{sent, noting}
-use Rattle.act_rows.specs.Stores.{found_at}
-
--- the transactions at a key's lock: the first owns it
-abbrev pub queue_at : NodeState → Key → List TxId
-queue_at s key = unwrap_or (at key_cmp s.queues key) []
-
--- an empty queue is not kept
-abbrev pub with_queue : NodeState → Key → List TxId → NodeState
-with_queue s key queue = if length queue == 0
-    then record s { queues = without key_cmp s.queues key }
-    else record s { queues = put key_cmp s.queues key queue }
+use Rattle.ignite_types.specs.declared.message.Message.TheVariants as msg
+use Rattle.ignite_types.specs.declared.journal.Rec.TheVariants as note
 
 abbrev pub owner_at : NodeState → Key → Option TxId
-owner_at s key = slice_get (queue_at s key) 0
+owner_at s key = owner_in s.queues key
 
--- the transaction stands at the end of the key's queue
 abbrev pub enqueued : NodeState → TxId → Key → NodeState
-enqueued s tx key = with_queue s key (queue_at s key ++ tx ∷ [])
-
--- the version of the installed map; 0.0 where none is installed
-abbrev pub installed_top : NodeState → TopVer
-installed_top s = unwrap_or (option_map (λ map. map.top) s.installed) (record { major = 0; minor = 0 })
+enqueued s tx key = record s { queues = enqueued_in s.queues tx key }
 
 -- notes that the transaction owns the key from now on, and tells its starter what the entry is
 abbrev pub grants : NodeState → NodeId → TxId → TopVer → Key → NodeState
@@ -46,21 +33,8 @@ placed s from tx top key (Some owner) = noting (enqueued s tx key) (note.Queue t
 abbrev pub lock_row : NodeState → NodeId → TxId → TopVer → Key → NodeState
 lock_row s from tx top key = placed s from tx top key (owner_at s key)
 
-abbrev pub stands_in : TxId → List TxId → Bool
-stands_in tx [] = false
-stands_in tx (u ∷ us) = if same_tx tx u then true else stands_in tx us
-
--- the queue without the transaction
-abbrev pub left_by : TxId → List TxId → List TxId
-left_by tx queue = filter (λ u. not (same_tx u tx)) queue
-
-abbrev pub left : NodeState → TxId → Key → NodeState
-left s tx key = with_queue s key (left_by tx (queue_at s key))
-
--- the keys in whose queues the transaction stands, in the keys' order
-abbrev pub keys_of : List (Key × List TxId) → TxId → List Key
-keys_of [] tx = []
-keys_of (e ∷ es) tx = if stands_in tx e.1 then e.0 ∷ keys_of es tx else keys_of es tx
+abbrev pub leaves : NodeState → TxId → Key → NodeState
+leaves s tx key = record s { queues = left_in s.queues tx key }
 
 abbrev pub is_owner : TxId → Option TxId → Bool
 is_owner tx None = false
@@ -73,9 +47,31 @@ passed_on s key _ _ = s
 
 -- the transaction leaves the key's queue; where it owned the key, the next one owns it
 abbrev pub released : NodeState → TxId → Key → NodeState
-released s tx key = let after = noting (left s tx key) (note.Drop tx key) in
+released s tx key = let after = noting (leaves s tx key) (note.Drop tx key) in
     passed_on after key (is_owner tx (owner_at s key)) (owner_at after key)
 
 abbrev pub released_all : NodeState → TxId → List Key → NodeState
 released_all s tx [] = s
 released_all s tx (key ∷ keys) = released_all (released s tx key) tx keys
+
+-- all places of the transaction are left, in the keys' order
+abbrev pub releases : NodeState → TxId → NodeState
+releases s tx = released_all s tx (keys_of s.queues tx)
+
+-- a prepare in optimistic mode owns its keys, with a Grant each
+abbrev pub owns_each : NodeState → TxId → TopVer → List Wanted → NodeState
+owns_each s tx top [] = s
+owns_each s tx top (w ∷ ws) = owns_each (noting (enqueued s tx w.key) (note.Grant tx top w.key)) tx top ws
+
+abbrev pub reads_for : NodeState → NodeId → Bool → Key → NodeState
+reads_for s from true key = record s { readers = with_reader s.readers key from }
+reads_for s from false key = s
+
+-- Get: what the entry is, without a lock; the sender may become a reader of the key
+abbrev pub get_row : NodeState → NodeId → TxId → Key → Bool → NodeState
+get_row s from tx key near = sent (reads_for s from near key) from (msg.GetOk tx key (found_at s key))
+
+-- Edges: the waits of the listed transactions at this act
+abbrev pub edges_row : NodeState → NodeId → TxId → ℕ → List TxId → NodeState
+edges_row s from tx round of = let waits = edges_of s.queues of in
+    sent (noting s (note.Waits tx round waits)) from (msg.EdgesOk tx round s.acts waits)

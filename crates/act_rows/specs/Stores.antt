@@ -1,53 +1,32 @@
--- A partition's copy: what it has at a key, and what a write does to it.
-use Rattle.std.specs.Prelude.{ℕ, List, [], ◌∷◌, Option, Some, None, slice_get, slice_set, unwrap_or}
-use Rattle.std.specs.Option.{option_and_then, option_map}
-use Rattle.std.specs.declared.cmp.Ordering.{Ordering}
-use Rattle.std.specs.Ordering.{match_ordering}
+-- A node's copies: what it has at a key, and a write done to it.
+use Rattle.std.specs.Prelude.{None, Some, [], slice_set, ◌∷◌}
+use Rattle.act_rows.specs.Steps.{is_filling, noting, partition}
+use Rattle.base_words.specs.Copies.{Found, absent_version, applied_to, copy_at, found_in}
+use Rattle.ignite_types.specs.declared.list.List.{List}
 use Rattle.ignite_types.specs.declared.message.Stored.{Stored}
 use Rattle.ignite_types.specs.declared.names.CacheVersion.{CacheVersion}
+use Rattle.ignite_types.specs.declared.names.NodeId.{NodeId}
+use Rattle.ignite_types.specs.declared.names.TopVer.{TopVer}
+use Rattle.ignite_types.specs.declared.names.TxId.{TxId}
 use Rattle.ignite_types.specs.declared.text.Key.{Key}
-use Rattle.ignite_types.specs.Names.{key_cmp, version_cmp}
-use Rattle.ignite_types.specs.Placement.{part_of}
-use Rattle.ordered_table.specs.Entries.{at, put, without}
 use Rattle.node_state.specs.declared.node.NodeState.{NodeState}
-use Rattle.node_state.specs.declared.primary.Entry.{Entry}
-
--- a copy, as the list of its entries by key
-abbrev pub Copy : Type 0
-Copy = List (Key × Entry)
-
--- the value with its version, where the entry is no mark
-abbrev pub present : Entry → Option (List ℕ × CacheVersion)
-present entry = option_map (λ value. (value, entry.ver)) entry.value
-
-abbrev pub found_in : Copy → Key → Option (List ℕ × CacheVersion)
-found_in copy key = option_and_then present (at key_cmp copy key)
-
--- an owner keeps a written value, and nothing of a removal
-abbrev pub kept : Copy → Stored → Option (List ℕ) → Copy
-kept copy write None = without key_cmp copy write.key
-kept copy write (Some value) = put key_cmp copy write.key (record { value = Some value; ver = write.ver })
-
--- a write replaces an entry whose version is not higher
-abbrev pub over : Copy → Stored → Option Entry → Copy
-over copy write None = kept copy write write.value
-over copy write (Some entry) = match_ordering (version_cmp write.ver entry.ver) copy (kept copy write write.value) (kept copy write write.value)
-
-abbrev pub applied_to : Copy → Stored → Copy
-applied_to copy write = over copy write (at key_cmp copy write.key)
-
--- the partition of a key by the installed map; 0 where none is installed
-abbrev pub partition : NodeState → Key → ℕ
-partition s key = unwrap_or (option_map (λ map. part_of map.parts key) s.installed) 0
-
-abbrev pub copy_at : List Copy → ℕ → Copy
-copy_at copies part = unwrap_or (slice_get copies part) []
+use Rattle.ignite_types.specs.declared.journal.Rec.TheVariants as note
 
 -- what the node's copy of the key's partition has at the key
-abbrev pub found_at : NodeState → Key → Option (List ℕ × CacheVersion)
+abbrev pub found_at : NodeState → Key → Found
 found_at s key = found_in (copy_at s.stores (partition s key)) key
+
+abbrev pub version_of : Found → CacheVersion
+version_of None = absent_version
+version_of (Some (value, ver)) = ver
 
 -- the write is done to the copy of its key's partition
 abbrev pub stored : NodeState → Stored → NodeState
 stored s write = let part = partition s write.key in
-    record s { stores = slice_set s.stores part (applied_to (copy_at s.stores part) write) }
+    record s { stores = slice_set s.stores part (applied_to (copy_at s.stores part) write (is_filling s part)) }
+
+-- each write is done and noted, for the primary that drew its version
+abbrev pub applied_all : NodeState → TxId → TopVer → NodeId → List Stored → NodeState
+applied_all s tx top primary [] = s
+applied_all s tx top primary (w ∷ ws) =
+    applied_all (noting (stored s w) (note.Apply tx top primary w.key w.value w.ver)) tx top primary ws

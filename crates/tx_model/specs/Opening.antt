@@ -1,93 +1,121 @@
--- The world that a run begins with: version 1.0 is seen, installed and open at every node.
-use Rattle.std.specs.Prelude.{ℕ, zero, suc, ◌+◌, ◌-◌, ◌^◌, Bool, false, true, nat_lt, List, [], ◌∷◌, ◌++◌, Some, map, filter, length, if◌then◌else◌}
+-- The world that a run begins with: version 1.0 is seen, installed and open at every initial node.
+use Rattle.std.specs.List.{flat_map}
 use Rattle.std.specs.Ordering.{nat_cmp}
+use Rattle.std.specs.Prelude.{Bool, None, Some, [], false, if◌then◌else◌, map, ℕ, ◌++◌, ◌∷◌}
+use Rattle.act_rows.specs.Commands.{new_desk}
+use Rattle.base_words.specs.Copies.{Copy}
+use Rattle.base_words.specs.Directory.{first_top, node_set, opening_directory, running_from}
+use Rattle.base_words.specs.Links.{Inbox, new_inbox}
+use Rattle.base_words.specs.NextMap.{is_member, servers}
+use Rattle.ignite_types.specs.Affinity.{opening_map}
+use Rattle.ignite_types.specs.Good.{members}
+use Rattle.ignite_types.specs.Names.{same_node}
+use Rattle.ignite_types.specs.Placement.{capped}
+use Rattle.ignite_types.specs.declared.list.List.{List}
 use Rattle.ignite_types.specs.declared.names.NodeId.{NodeId}
-use Rattle.ignite_types.specs.declared.names.TopVer.{TopVer}
 use Rattle.ignite_types.specs.declared.placement.PartMap.{PartMap}
 use Rattle.ignite_types.specs.declared.placement.Row.{Row}
-use Rattle.ignite_types.specs.declared.scenario.Cache.{Cache}
-use Rattle.ignite_types.specs.declared.scenario.Item.{Item}
 use Rattle.ignite_types.specs.declared.scenario.Member.{Member}
+use Rattle.ignite_types.specs.declared.scenario.PlanStep.{PlanStep}
 use Rattle.ignite_types.specs.declared.scenario.Scenario.{Scenario}
 use Rattle.ignite_types.specs.declared.scenario.Session.{Session}
-use Rattle.ignite_types.specs.Affinity.{opening_map}
-use Rattle.ignite_types.specs.Names.{node_cmp, same_node}
-use Rattle.ignite_types.specs.Placement.{capped}
-use Rattle.ordered_set.specs.Members.{with_member}
-use Rattle.ordered_table.specs.Entries.{put}
+use Rattle.ignite_types.specs.declared.scenario.Step.{Step}
 use Rattle.node_state.specs.declared.node.NodeState.{NodeState}
 use Rattle.node_state.specs.declared.session.Desk.{Desk}
-use Rattle.act_rows.specs.Commands.{new_desk}
-use Rattle.act_rows.specs.Links.{Inbox, new_inbox}
-use Rattle.act_rows.specs.Stores.{Copy}
-use Rattle.tx_model.specs.World.{World}
-
--- the first topology version
-abbrev pub first_top : TopVer
-first_top = record { major = 1; minor = 0 }
-
-abbrev pub servers_of : List Member → List NodeId
-servers_of [] = []
-servers_of (m ∷ ms) = if m.server then m.node ∷ servers_of ms else servers_of ms
-
--- the numbers of the caches that run from the start, the first of these having this number
-abbrev pub running_from : ℕ → List Cache → List ℕ
-running_from number [] = []
-running_from number (cache ∷ caches) =
-    if cache.first then number ∷ running_from (capped number 1) caches else running_from (capped number 1) caches
+use Rattle.ordered_table.specs.Entries.{put}
+use Rattle.tx_model.specs.World.{Part, World, ids}
+use Rattle.node_state.specs.declared.node.Life.TheVariants as life
+use Rattle.ignite_types.specs.declared.scenario.Step.TheVariants as step
 
 abbrev pub opening_map_of : Scenario → PartMap
 opening_map_of scenario =
-    opening_map first_top (servers_of scenario.nodes) scenario.caches (running_from 0 scenario.caches)
+    opening_map first_top (servers scenario.nodes) scenario.caches (running_from 0 scenario.caches)
+
+abbrev pub desk_if_on : NodeId → ℕ → List (ℕ × Desk) → Session → List (ℕ × Desk)
+desk_if_on id number desks session =
+    if same_node session.node id then put nat_cmp desks number (new_desk session.commands) else desks
 
 -- the sessions on a node, by their numbers, the first of these having this number
 abbrev pub desks_on : NodeId → ℕ → List (ℕ × Desk) → List Session → List (ℕ × Desk)
 desks_on id number desks [] = desks
-desks_on id number desks (session ∷ more) = desks_on id (capped number 1)
-    (if same_node session.node id then put nat_cmp desks number (new_desk session.commands) else desks) more
+desks_on id number desks (session ∷ more) = desks_on id (capped number 1) (desk_if_on id number desks session) more
 
 -- so many empty copies
 abbrev pub empty_copies : List Row → List Copy
-empty_copies rows = map (λ _. []) rows
+empty_copies rows = map (λ (row : Row). []) rows
 
-abbrev pub opening_node : Scenario → NodeId → NodeState
-opening_node scenario id = record {
+-- a declared node before its first act, with a map where it is an initial one
+abbrev pub opening_node : Scenario → PartMap → NodeId → Bool → NodeState
+opening_node scenario m id initial = record {
   me = id;
   acts = 0;
+  now = 0;
+  caches = scenario.caches;
+  read = 0;
   seen = first_top;
-  opened = Some first_top;
-  installed = Some (opening_map_of scenario);
+  members = scenario.nodes;
+  running = running_from 0 scenario.caches;
+  left = [];
+  installed = if initial then Some m else None;
+  opened = if initial then Some first_top else None;
   desks = desks_on id 1 [] scenario.sessions;
   txs = [];
-  stores = empty_copies (opening_map_of scenario).rows;
+  near = [];
+  stores = empty_copies m.rows;
   queues = [];
+  readers = [];
   order = 0;
   shares = [];
+  backups = [];
+  single_sent = None;
+  singles = [];
+  exchange = None;
+  complete = [];
+  claims = [];
+  round = None;
+  reports = [];
+  verdicts = [];
   outbox = [];
   noted = [];
 }
 
--- the nodes' numbers, ascending
-abbrev pub ids_from : List NodeId → List Member → List NodeId
-ids_from ids [] = ids
-ids_from ids (member ∷ more) = ids_from (with_member node_cmp ids member.node) more
+-- the nodes that join by a step of the plan, in its order
+abbrev pub joins_in : Step → List Member
+joins_in (step.Join member) = member ∷ []
+joins_in _ = []
 
+abbrev pub joiner_of : PlanStep → List Member
+joiner_of s = joins_in s.step
+
+-- the declared nodes: those of node lines, then those of join steps
+abbrev pub declared_nodes : Scenario → List Member
+declared_nodes scenario = scenario.nodes ++ flat_map joiner_of scenario.plan
+
+-- their numbers, ascending
 abbrev pub ids_of : Scenario → List NodeId
-ids_of scenario = ids_from [] scenario.nodes
+ids_of scenario = node_set [] (declared_nodes scenario)
 
 abbrev pub homes_from : ℕ → List (ℕ × NodeId) → List Session → List (ℕ × NodeId)
 homes_from number homes [] = homes
 homes_from number homes (session ∷ more) = homes_from (capped number 1) (put nat_cmp homes number session.node) more
 
+abbrev pub opening_part : Scenario → PartMap → NodeId → Part
+opening_part scenario m id = let initial = is_member scenario.nodes id in
+    record { node = opening_node scenario m id initial; life = if initial then life.Alive else life.Absent }
+
 -- an empty inbox for each node
 abbrev pub opening_inboxes : List NodeId → List NodeId → List Inbox
-opening_inboxes senders ids = map (λ _. new_inbox senders) ids
+opening_inboxes senders ids = map (λ (id : NodeId). new_inbox senders) ids
 
--- the opening world of a scenario
-abbrev pub opening : Scenario → World
-opening scenario = record {
-  nodes = map (opening_node scenario) (ids_of scenario);
+abbrev pub opening_with : Scenario → PartMap → World
+opening_with scenario m = record {
+  directory = opening_directory scenario;
+  parts = map (opening_part scenario m) (ids_of scenario);
   inboxes = opening_inboxes (ids_of scenario) (ids_of scenario);
   homes = homes_from 1 [] scenario.sessions;
   broken = false;
 }
+
+-- the opening world of a scenario
+abbrev pub opening : Scenario → World
+opening scenario = opening_with scenario (opening_map_of scenario)

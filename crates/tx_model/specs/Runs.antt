@@ -1,13 +1,12 @@
 -- Runs: a journal is legal where each of its groups is what the machine does from the scenario's opening world.
-use Rattle.std.specs.Prelude.{◌≡◌, ℕ, Bool, true, false, IsTrue, not, List, [], ◌∷◌, ◌++◌, Option, Some, None, slice_get}
+use Rattle.std.specs.Prelude.{IsTrue, Some, [], false, slice_get, true, ◌∷◌, ◌≡◌}
 use Rattle.ignite_types.specs.declared.journal.End.{End}
-use Rattle.ignite_types.specs.declared.journal.End.TheVariants.{AllEnded, Stalled, StepLimit, Memory}
-use Rattle.ignite_types.specs.declared.journal.Event.{Event}
-use Rattle.ignite_types.specs.declared.journal.Event.TheVariants as event
 use Rattle.ignite_types.specs.declared.journal.Group.{Group}
 use Rattle.ignite_types.specs.declared.journal.Journal.{Journal}
+use Rattle.ignite_types.specs.declared.list.List.{List}
 use Rattle.tx_model.specs.Opening.{opening}
-use Rattle.tx_model.specs.World.{World, outcome, enabled, possible, all_over}
+use Rattle.tx_model.specs.World.{World, all_over, enabled, outcome, possible}
+use Rattle.ignite_types.specs.declared.journal.End.TheVariants as end
 
 -- the world after these groups' events
 abbrev pub after : World → List Group → World
@@ -26,10 +25,10 @@ AreSteps w (g ∷ gs) = IsStep w g × AreSteps (outcome w g.event).world gs
 
 -- what the run's end says of the world in which it ends
 abbrev pub EndsAt : World → End → Type 0
-EndsAt w AllEnded = (possible w ≡ []) × (all_over w ≡ true)
-EndsAt w Stalled = (possible w ≡ []) × (all_over w ≡ false)
-EndsAt w StepLimit = Unit {0}
-EndsAt w Memory = Unit {0}
+EndsAt w end.AllEnded = (possible w ≡ []) × (all_over w ≡ true)
+EndsAt w end.Stalled = (possible w ≡ []) × (all_over w ≡ false)
+EndsAt w end.StepLimit = Unit {0}
+EndsAt w end.Memory = Unit {0}
 
 -- the journal is the machine's own, from its scenario's opening world to its end
 pub record IsLegal (j : Journal) : Type 0 where

@@ -1,10 +1,8 @@
-//! The machine of the whole world and what a journal says, as definitions, with the calls that compute the history.
+//! The world's machine, runs and histories, as definitions; and the calls that compute a history.
 #![tactic(auto)]
 
 mod history;
-#[cfg(test)]
-mod tests;
 mod walk;
 
-pub use history::{BadRead, CommitEntry, commits, footprint, serial};
+pub use history::{BadRead, CommitEntry};
 pub use walk::Walk;

@@ -1,9 +1,11 @@
 -- A node's inbox: for each sender a list of messages, the oldest first, and whether the link is held.
-use Rattle.std.specs.Prelude.{ℕ, Bool, true, false, List, [], ◌∷◌, ◌++◌, Option, Some, None, slice_get, drop, if◌then◌else◌, map}
-use Rattle.std.specs.Option.{option_and_then, option_map}
+use Rattle.std.specs.Option.{option_and_then}
+use Rattle.std.specs.Prelude.{Bool, None, Option, Some, [], drop, false, if◌then◌else◌, map, slice_get, true, ◌++◌, ◌∷◌}
+use Rattle.base_words.specs.NextMap.{held}
+use Rattle.ignite_types.specs.Names.{node_cmp}
+use Rattle.ignite_types.specs.declared.list.List.{List}
 use Rattle.ignite_types.specs.declared.message.Message.{Message}
 use Rattle.ignite_types.specs.declared.names.NodeId.{NodeId}
-use Rattle.ignite_types.specs.Names.{node_cmp}
 use Rattle.ordered_table.specs.Entries.{at, put}
 
 pub record Link : Type 0 where

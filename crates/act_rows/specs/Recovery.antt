@@ -1,0 +1,210 @@
+-- What becomes of the transactions of a lost starter: each node lists what it holds of them, and the oldest member decides.
+use Rattle.std.specs.List.{flat_map, list_all, list_any}
+use Rattle.std.specs.Ordering.{ordering_then}
+use Rattle.std.specs.Prelude.{Bool, None, Option, Some, [], false, filter, fold, if◌then◌else◌, length, map, nat_eq, nat_le, not, true, ℕ, ◌&&◌, ◌++◌, ◌||◌, ◌∷◌}
+use Rattle.std.specs.declared.cmp.Ordering.{Ordering}
+use Rattle.act_rows.specs.Decisions.{finishes_for_lost, orphaned}
+use Rattle.act_rows.specs.Steps.{is_live, live_among, lost_among, noting, oldest_seen, outs_to, sent_all, sent_to_oldest, share_of}
+use Rattle.base_words.specs.Directory.{oldest_member}
+use Rattle.base_words.specs.NextMap.{held}
+use Rattle.base_words.specs.Orders.{is_node}
+use Rattle.base_words.specs.Queues.{standing_in, with_members}
+use Rattle.base_words.specs.Verdicts.{is_settled, shares_named, verdict}
+use Rattle.ignite_types.specs.Good.{members}
+use Rattle.ignite_types.specs.Names.{node_cmp, same_node, same_tx, share_cmp, tx_cmp}
+use Rattle.ignite_types.specs.declared.list.List.{List}
+use Rattle.ignite_types.specs.declared.message.Orphan.{Orphan}
+use Rattle.ignite_types.specs.declared.names.NodeId.{NodeId}
+use Rattle.ignite_types.specs.declared.names.TxId.{TxId}
+use Rattle.ignite_types.specs.declared.placement.Share.{Share}
+use Rattle.ignite_types.specs.declared.placement.ShareState.{ShareState}
+use Rattle.ignite_types.specs.declared.scenario.Member.{Member}
+use Rattle.node_state.specs.declared.node.NodeState.{NodeState}
+use Rattle.node_state.specs.declared.primary.BackupName.{BackupName}
+use Rattle.node_state.specs.declared.primary.BackupShare.{BackupShare}
+use Rattle.node_state.specs.declared.primary.OwnShare.{OwnShare}
+use Rattle.node_state.specs.declared.topology.BackupWait.{BackupWait}
+use Rattle.node_state.specs.declared.topology.FinishWait.{FinishWait}
+use Rattle.node_state.specs.declared.topology.Report.{Report}
+use Rattle.node_state.specs.declared.topology.Round.{Round}
+use Rattle.ordered_set.specs.Members.{has, with_member, without_member}
+use Rattle.ordered_table.specs.Entries.{at, put}
+use Rattle.ignite_types.specs.declared.message.Message.TheVariants as msg
+use Rattle.ignite_types.specs.declared.journal.Rec.TheVariants as note
+
+-- What a node holds.
+
+-- the transactions of which a lock, a waiting place or a share is here, ascending
+abbrev pub held_txs : NodeState → List TxId
+held_txs s = with_members
+    (with_members (standing_in s.queues) (map (λ (e : TxId × OwnShare). e.0) s.shares))
+    (map (λ (e : BackupName × BackupShare). e.0.tx) s.backups)
+
+abbrev pub orphan_txs : NodeState → List TxId
+orphan_txs s = filter (λ (tx : TxId). not (is_live s tx.node)) (held_txs s)
+
+abbrev pub backups_of : NodeState → TxId → List (BackupName × BackupShare)
+backups_of s tx = filter (λ (e : BackupName × BackupShare). same_tx e.0.tx tx) s.backups
+
+abbrev pub held_backup : NodeId → BackupName × BackupShare → Share × ShareState
+held_backup me e = (record { holder = me; primary = e.0.primary }, e.1.state)
+
+abbrev pub with_own : NodeId → List (Share × ShareState) → Option OwnShare → List (Share × ShareState)
+with_own me held None = held
+with_own me held (Some h) = put share_cmp held (record { holder = me; primary = me }) h.state
+
+-- the node's shares of a transaction with their states, ascending
+abbrev pub held_of : NodeState → TxId → List (Share × ShareState)
+held_of s tx = with_own s.me (map (held_backup s.me) (backups_of s tx)) (share_of s tx)
+
+abbrev pub first_shares : List (BackupName × BackupShare) → List Share
+first_shares [] = []
+first_shares (e ∷ es) = e.1.shares
+
+-- all shares of a transaction, as a share here names them
+abbrev pub shares_known : NodeState → TxId → Option OwnShare → List Share
+shares_known s tx (Some h) = h.shares
+shares_known s tx None = first_shares (backups_of s tx)
+
+abbrev pub orphan_of : NodeState → TxId → Orphan
+orphan_of s tx = record {
+  tx = tx;
+  shares = shares_known s tx (share_of s tx);
+  held = held_of s tx;
+  locks = has tx_cmp (standing_in s.queues) tx;
+}
+
+abbrev pub orphans_of : NodeState → List Orphan
+orphans_of s = map (orphan_of s) (orphan_txs s)
+
+-- A loss begins a new round.
+
+abbrev pub new_round : ℕ → List Member → Round
+new_round place members = record { place = place; members = members; acted = false; finishes = []; backups = [] }
+
+-- the round before is over, and its lists are of no more use; this node's list goes to the oldest member
+abbrev pub begins_round : NodeState → ℕ → NodeState
+begins_round s place = let here = record s {
+      round = Some (new_round place s.members);
+      reports = filter (λ (r : Report). nat_le place r.round) s.reports;
+    } in sent_to_oldest here (msg.Orphans place (orphans_of here)) (oldest_seen here)
+
+-- The verdicts.
+
+abbrev pub reports_for : NodeState → ℕ → List Report
+reports_for s place = filter (λ (r : Report). nat_eq r.round place) s.reports
+
+abbrev pub all_reported : List Member → List Report → Bool
+all_reported members reports = list_all (λ (m : Member). list_any (λ (r : Report). same_node r.from m.node) reports) members
+
+abbrev pub names_of : List Report → List TxId
+names_of reports = fold (λ (set : List TxId) (r : Report). with_members set (map (λ (o : Orphan). o.tx) r.list)) [] reports
+
+-- what one list says of a transaction
+abbrev pub orphans_in : TxId → Report → List Orphan
+orphans_in tx r = filter (λ (o : Orphan). same_tx o.tx tx) r.list
+
+abbrev pub orphans_for : TxId → List Report → List Orphan
+orphans_for tx reports = flat_map (orphans_in tx) reports
+
+-- whether a list has a lock or a waiting place of the transaction
+abbrev pub has_locks : TxId → Report → Bool
+has_locks tx r = list_any (λ (o : Orphan). o.locks) (orphans_in tx r)
+
+abbrev pub lockers : TxId → List Report → List NodeId
+lockers tx reports = map (λ (r : Report). r.from) (filter (has_locks tx) reports)
+
+abbrev pub with_nodes : List NodeId → List NodeId → List NodeId
+with_nodes set [] = set
+with_nodes set (node ∷ nodes) = with_nodes (with_member node_cmp set node) nodes
+
+abbrev pub primaries_of : List Share → List NodeId
+primaries_of shares = with_nodes [] (map (λ (h : Share). h.primary) shares)
+
+-- each live primary, and each node that has a lock or a waiting place
+abbrev pub finish_nodes : NodeState → List Share → List NodeId → List NodeId
+finish_nodes s shares nodes = with_nodes (live_among s (primaries_of shares)) nodes
+
+abbrev pub finish_wait_cmp : FinishWait → FinishWait → Ordering
+finish_wait_cmp a b = ordering_then (tx_cmp a.tx b.tx) (node_cmp a.node b.node)
+
+abbrev pub backup_wait_cmp : BackupWait → BackupWait → Ordering
+backup_wait_cmp a b = ordering_then (tx_cmp a.tx b.tx) (ordering_then (node_cmp a.primary b.primary) (node_cmp a.holder b.holder))
+
+abbrev pub awaits_finishes : List FinishWait → TxId → List NodeId → List FinishWait
+awaits_finishes set tx [] = set
+awaits_finishes set tx (node ∷ nodes) = awaits_finishes (with_member finish_wait_cmp set (record { tx = tx; node = node })) tx nodes
+
+abbrev pub awaits_backups : List BackupWait → TxId → List Share → List BackupWait
+awaits_backups set tx [] = set
+awaits_backups set tx (h ∷ hs) =
+    awaits_backups (with_member backup_wait_cmp set (record { tx = tx; primary = h.primary; holder = h.holder })) tx hs
+
+abbrev pub on_round : NodeState → (Round → Round) → Option Round → NodeState
+on_round s f None = s
+on_round s f (Some r) = record s { round = Some (f r) }
+
+abbrev pub awaits_verdict : NodeState → TxId → List NodeId → List Share → NodeState
+awaits_verdict s tx nodes backups = on_round s (λ (r : Round). record r {
+  finishes = awaits_finishes r.finishes tx nodes;
+  backups = awaits_backups r.backups tx backups;
+}) s.round
+
+-- the verdict is kept and noted, and all that hold something of the transaction are told
+abbrev pub gives_verdict : NodeState → TxId → Bool → List Share → List NodeId → NodeState
+gives_verdict s tx commit shares nodes = sent_all
+    (awaits_verdict (noting (record s { verdicts = put tx_cmp s.verdicts tx commit }) (note.Decide tx commit)) tx
+      (finish_nodes s shares nodes) (orphaned s shares))
+    (outs_to (finish_nodes s shares nodes) (msg.Finish tx commit)
+      ++ finishes_for_lost s tx commit shares (lost_among s (primaries_of shares)))
+
+-- one transaction that was named
+abbrev pub judges : NodeState → TxId → List Member → List Orphan → List NodeId → NodeState
+judges s tx members orphans nodes = if is_settled orphans
+    then s
+    else gives_verdict s tx (verdict (at tx_cmp s.verdicts tx) orphans members) (shares_named orphans) nodes
+
+abbrev pub judges_each : NodeState → List Member → List Report → List TxId → NodeState
+judges_each s members reports [] = s
+judges_each s members reports (tx ∷ txs) =
+    judges_each (judges s tx members (orphans_for tx reports) (lockers tx reports)) members reports txs
+
+abbrev pub acts_on_round : NodeState → Round → List Report → NodeState
+acts_on_round s r reports =
+    judges_each (record s { round = Some (record r { acted = true }) }) r.members reports (names_of reports)
+
+-- the recoverer acts once it has the lists of all members
+abbrev pub is_recoverer : NodeState → Round → Bool
+is_recoverer s r = is_node s.me (oldest_member r.members)
+
+abbrev pub recovers_if_all : NodeState → Option Round → NodeState
+recovers_if_all s None = s
+recovers_if_all s (Some r) = let reports = reports_for s r.place in
+    if is_recoverer s r && not r.acted && all_reported r.members reports then acts_on_round s r reports else s
+
+-- Orphans: kept under its round
+abbrev pub orphans_row : NodeState → NodeId → ℕ → List Orphan → NodeState
+orphans_row s from round list = let here = record s {
+      reports = s.reports ++ record { round = round; from = from; list = list } ∷ []
+    } in recovers_if_all here here.round
+
+-- answers to the recoverer
+
+abbrev pub recovery_finished : NodeState → NodeId → TxId → NodeState
+recovery_finished s from tx = on_round s (λ (r : Round). record r {
+  finishes = without_member finish_wait_cmp r.finishes (record { tx = tx; node = from })
+}) s.round
+
+abbrev pub recovery_backup_finished : NodeState → NodeId → TxId → NodeId → NodeState
+recovery_backup_finished s from tx primary = on_round s (λ (r : Round). record r {
+  backups = without_member backup_wait_cmp r.backups (record { tx = tx; primary = primary; holder = from })
+}) s.round
+
+-- nothing is awaited in the round any more
+abbrev pub round_settled : Round → Bool
+round_settled r = r.acted && nat_eq (length r.finishes) 0 && nat_eq (length r.backups) 0
+
+-- a recoverer is not drained before its round is settled
+abbrev pub recovery_calm : NodeState → Option Round → Bool
+recovery_calm s None = true
+recovery_calm s (Some r) = not (is_recoverer s r) || round_settled r

@@ -1,0 +1,67 @@
+-- The search for a deadlock in the waits that were gathered: the first cycle through a transaction, depth first.
+use Rattle.std.specs.List.{list_any}
+use Rattle.std.specs.Prelude.{Bool, None, Option, Some, [], false, if◌then◌else◌, length, suc, true, zero, ℕ, ◌&&◌, ◌++◌, ◌+◌, ◌∷◌}
+use Rattle.base_words.specs.Drain.{below}
+use Rattle.ignite_types.specs.Names.{same_key, same_node, same_tx, tx_cmp}
+use Rattle.ignite_types.specs.declared.list.List.{List}
+use Rattle.ignite_types.specs.declared.message.Edge.{Edge}
+use Rattle.ignite_types.specs.declared.message.Wait.{Wait}
+use Rattle.ignite_types.specs.declared.names.NodeId.{NodeId}
+use Rattle.ignite_types.specs.declared.names.TxId.{TxId}
+use Rattle.ordered_set.specs.Members.{has, with_member}
+
+abbrev pub same_wait : Wait → Wait → Bool
+same_wait a b = same_key a.key b.key && same_tx a.waiter b.waiter && same_tx a.holder b.holder
+
+abbrev pub same_edge : Edge → Edge → Bool
+same_edge a b = same_node a.node b.node && same_wait a.wait b.wait
+
+-- of two equal waits from one node the first is kept
+abbrev pub with_edge : List Edge → Edge → List Edge
+with_edge edges edge = if list_any (same_edge edge) edges then edges else edges ++ edge ∷ []
+
+-- the waits of one answer, in its order
+abbrev pub with_waits : List Edge → NodeId → ℕ → List Wait → List Edge
+with_waits edges node act [] = edges
+with_waits edges node act (wait ∷ waits) = with_waits (with_edge edges (record { node = node; act = act; wait = wait })) node act waits
+
+-- a descent through waits: the way back to the transaction, if one was found, and the transactions that were entered
+pub record Descent : Type 0 where
+  pub way : Option (List Edge)
+  pub entered : List TxId
+
+abbrev pub no_way : List TxId → Descent
+no_way entered = record { way = None; entered = entered }
+
+-- after a descent from an edge's holder: the way goes on from there, or the next edge is tried
+abbrev pub behind_edge : Edge → List TxId → Option (List Edge) → (List TxId → Descent) → Descent
+behind_edge edge entered None later = later entered
+behind_edge edge entered (Some way) later = record { way = Some (edge ∷ way); entered = entered }
+
+abbrev pub into_holder : Edge → Descent → (List TxId → Descent) → Descent
+into_holder edge below later = behind_edge edge below.entered below.way later
+
+abbrev pub along : (List TxId → TxId → Descent) → TxId → Edge → List TxId → Bool → Bool → (List TxId → Descent) → Descent
+along deeper tx edge entered true _ later = record { way = Some (edge ∷ []); entered = entered }
+along deeper tx edge entered false true later = later entered
+along deeper tx edge entered false false later =
+    into_holder edge (deeper (with_member tx_cmp entered edge.wait.holder) edge.wait.holder) later
+
+abbrev pub try_edge : (List TxId → TxId → Descent) → TxId → TxId → Edge → List TxId → Bool → (List TxId → Descent) → Descent
+try_edge deeper tx at_tx edge entered false later = later entered
+try_edge deeper tx at_tx edge entered true later =
+    along deeper tx edge entered (same_tx edge.wait.holder tx) (has tx_cmp entered edge.wait.holder) later
+
+-- the edges of one waiter are tried in kept order; no transaction is entered twice
+abbrev pub tries : (List TxId → TxId → Descent) → TxId → TxId → List TxId → List Edge → Descent
+tries deeper tx at_tx entered [] = no_way entered
+tries deeper tx at_tx entered (edge ∷ edges) =
+    try_edge deeper tx at_tx edge entered (same_tx edge.wait.waiter at_tx) (λ now_entered. tries deeper tx at_tx now_entered edges)
+
+abbrev pub descends : ℕ → TxId → List Edge → List TxId → TxId → Descent
+descends zero tx edges entered at_tx = no_way entered
+descends (suc depth) tx edges entered at_tx = tries (λ now_entered holder. descends depth tx edges now_entered holder) tx at_tx entered edges
+
+-- the first cycle through the transaction, its edges in order
+abbrev pub cycle_through : TxId → List Edge → Option (List Edge)
+cycle_through tx edges = (descends (length edges + 1) tx edges (tx ∷ []) tx).way

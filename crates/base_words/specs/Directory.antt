@@ -1,0 +1,151 @@
+-- The directory: the one list of topology events, the members by age, the clock, the answers given, and how far the plan is.
+use Rattle.std.specs.List.{list_any}
+use Rattle.std.specs.Option.{option_map}
+use Rattle.std.specs.Ordering.{nat_cmp}
+use Rattle.std.specs.Prelude.{Bool, None, Option, Some, [], false, filter, if◌then◌else◌, length, nat_eq, nat_le, not, slice_get, ℕ, ◌++◌, ◌||◌, ◌∷◌}
+use Rattle.base_words.specs.NextMap.{is_member}
+use Rattle.base_words.specs.Orders.{raised}
+use Rattle.ignite_types.specs.Good.{members}
+use Rattle.ignite_types.specs.Names.{node_cmp, same_node}
+use Rattle.ignite_types.specs.Placement.{capped}
+use Rattle.ignite_types.specs.declared.answer.Answer.{Answer}
+use Rattle.ignite_types.specs.declared.journal.NoLoss.{NoLoss}
+use Rattle.ignite_types.specs.declared.journal.TopoEvent.{TopoEvent}
+use Rattle.ignite_types.specs.declared.list.List.{List}
+use Rattle.ignite_types.specs.declared.names.NodeId.{NodeId}
+use Rattle.ignite_types.specs.declared.names.TopVer.{TopVer}
+use Rattle.ignite_types.specs.declared.placement.PartMap.{PartMap}
+use Rattle.ignite_types.specs.declared.placement.Row.{Row}
+use Rattle.ignite_types.specs.declared.scenario.Cache.{Cache}
+use Rattle.ignite_types.specs.declared.scenario.Member.{Member}
+use Rattle.ignite_types.specs.declared.scenario.PlanStep.{PlanStep}
+use Rattle.ignite_types.specs.declared.scenario.Scenario.{Scenario}
+use Rattle.ordered_set.specs.Members.{with_member, without_member}
+use Rattle.ignite_types.specs.declared.journal.NoLoss.TheVariants as refusal
+use Rattle.ignite_types.specs.declared.journal.TopoEvent.TheVariants as topo
+
+pub record Directory : Type 0 where
+  pub events : List TopoEvent
+  -- all numbers that were ever in
+  pub ever : List NodeId
+  pub members : List Member
+  -- the last version
+  pub last : TopVer
+  pub now : ℕ
+  pub answers : List (ℕ × Answer)
+  pub plan : List PlanStep
+  -- how many plan steps were done or refused
+  pub done : ℕ
+
+-- the first topology version
+abbrev pub first_top : TopVer
+first_top = record { major = 1; minor = 0 }
+
+-- a join or a loss raises the major number, any other event the minor one
+abbrev pub next_major : TopVer → TopVer
+next_major top = record { major = raised top.major; minor = 0 }
+
+abbrev pub next_minor : TopVer → TopVer
+next_minor top = record { major = top.major; minor = raised top.minor }
+
+abbrev pub version_after : TopVer → TopoEvent → TopVer
+version_after top (topo.Join member) = next_major top
+version_after top (topo.Left node) = next_major top
+version_after top _ = next_minor top
+
+abbrev pub without_node : NodeId → List Member → List Member
+without_node node members = filter (λ (m : Member). not (same_node m.node node)) members
+
+abbrev pub members_after : List Member → TopoEvent → List Member
+members_after members (topo.Join member) = members ++ member ∷ []
+members_after members (topo.Left node) = without_node node members
+members_after members _ = members
+
+-- the numbers of the running caches, ascending
+abbrev pub running_after : List ℕ → TopoEvent → List ℕ
+running_after running (topo.Start cache) = with_member nat_cmp running cache
+running_after running (topo.Stop cache) = without_member nat_cmp running cache
+running_after running _ = running
+
+-- the caches that run from the start, the first of these having this number
+abbrev pub running_from : ℕ → List Cache → List ℕ
+running_from number [] = []
+running_from number (cache ∷ caches) =
+    if cache.first then number ∷ running_from (capped number 1) caches else running_from (capped number 1) caches
+
+abbrev pub node_of : Member → NodeId
+node_of m = m.node
+
+abbrev pub node_set : List NodeId → List Member → List NodeId
+node_set ids [] = ids
+node_set ids (m ∷ ms) = node_set (with_member node_cmp ids m.node) ms
+
+abbrev pub oldest_member : List Member → Option NodeId
+oldest_member members = option_map node_of (slice_get members 0)
+
+abbrev pub opening_directory : Scenario → Directory
+opening_directory scenario = record {
+  events = [];
+  ever = node_set [] scenario.nodes;
+  members = scenario.nodes;
+  last = first_top;
+  now = 0;
+  answers = [];
+  plan = scenario.plan;
+  done = 0;
+}
+
+-- one more topology event
+abbrev pub appended : Directory → TopoEvent → Directory
+appended d event = record d {
+  events = d.events ++ event ∷ [];
+  members = members_after d.members event;
+  last = version_after d.last event;
+}
+
+abbrev pub joined : Directory → Member → Directory
+joined d member = record (appended d (topo.Join member)) { ever = with_member node_cmp d.ever member.node }
+
+-- Which losses are refused.
+
+abbrev pub survives : List Member → Row → Bool
+survives members row = nat_eq (length row.owners) 0 || list_any (λ (owner : NodeId). is_member members owner) row.owners
+
+-- the first of these partitions, counted from this number on, that runs and would be without a living owner
+abbrev pub first_bare : List Member → ℕ → List Row → Option ℕ
+first_bare members part [] = None
+first_bare members part (row ∷ rows) = if survives members row then first_bare members (capped part 1) rows else Some part
+
+abbrev pub leaves_partition : List Member → Option PartMap → Option NoLoss
+leaves_partition members None = Some (refusal.LeavesPartition 0)
+leaves_partition members (Some best) = option_map refusal.LeavesPartition (first_bare members 0 best.rows)
+
+-- why the loss of a node is refused, `best` being the highest map installed at a survivor
+abbrev pub loss_refused : Directory → NodeId → Option PartMap → Option NoLoss
+loss_refused d node best = if is_member d.members node
+    then leaves_partition (without_node node d.members) best
+    else Some refusal.NotIn
+
+-- The plan and the clock.
+
+abbrev pub next_step : Directory → Option PlanStep
+next_step d = slice_get d.plan d.done
+
+abbrev pub step_done : Directory → Directory
+step_done d = record d { done = raised d.done }
+
+abbrev pub is_due : Directory → Option PlanStep → Bool
+is_due d None = false
+is_due d (Some step) = nat_le step.moment d.now
+
+abbrev pub step_due : Directory → Bool
+step_due d = is_due d (next_step d)
+
+abbrev pub ticked : Directory → ℕ → Directory
+ticked d to = record d { now = to }
+
+abbrev pub gave_answer : Directory → ℕ → Answer → Directory
+gave_answer d session a = record d { answers = d.answers ++ (session, a) ∷ [] }
+
+abbrev pub event_at : Directory → ℕ → Option TopoEvent
+event_at d place = slice_get d.events place

@@ -1,0 +1,12 @@
+pub mod Copies
+pub mod Cycles
+pub mod Directory
+pub mod Drain
+pub mod Links
+pub mod NearEntries
+pub mod NextMap
+pub mod Numbers
+pub mod Orders
+pub mod Queues
+pub mod Script
+pub mod Verdicts
