@@ -353,7 +353,7 @@ near_finished s from tx = finished_in s from tx (state_of s tx)
 
 abbrev pub near_backup_finished : NodeState → NodeId → TxId → NodeId → NodeState
 near_backup_finished s from tx primary = on_entry s tx (λ (e : TxEntry). record e {
-  backups = without_member share_cmp e.backups (record { holder = from; primary = primary })
+  backups = without_member share_cmp e.backups (record { holder = from; primary = primary });
 }) (entry_of s tx)
 
 -- NearUpdate: a near entry is brought up to date, and the primary is told

@@ -3,7 +3,7 @@
 use Rattle.std.specs.List.{list_all}
 use Rattle.std.specs.Prelude.{Bool, None, Option, Some, [], false, if◌then◌else◌, is_none, length, nat_eq, not, true, ◌&&◌, ◌∷◌}
 use Rattle.act_rows.specs.Decisions.{decides, ends, txs_of}
-use Rattle.act_rows.specs.Exchange.{is_open_share}
+use Rattle.act_rows.specs.Exchange.{is_kept_commit}
 use Rattle.act_rows.specs.Primary.{own_txs, shares_on}
 use Rattle.act_rows.specs.Recovery.{recovery_calm}
 use Rattle.act_rows.specs.Starts.{starts_all}
@@ -54,7 +54,7 @@ is_over e _ = is_none e.top
 
 -- a share that is Committed, with no finish in work
 abbrev pub is_done_share : OwnShare → Bool
-is_done_share h = not (is_open_share h.state) && nat_eq (length h.askers) 0
+is_done_share h = is_kept_commit h.state && nat_eq (length h.askers) 0
 
 -- no transaction with a version is open here, no lock or waiting place is held, no share is open, no finish is in work,
 -- and a recoverer's round is settled
@@ -62,7 +62,7 @@ abbrev pub is_drained : NodeState → Bool
 is_drained s = list_all (λ (e : TxId × TxEntry). is_over e.1 e.1.state) s.txs
     && nat_eq (length s.queues) 0
     && list_all (λ (e : TxId × OwnShare). is_done_share e.1) s.shares
-    && list_all (λ (e : BackupName × BackupShare). not (is_open_share e.1.state)) s.backups
+    && list_all (λ (e : BackupName × BackupShare). is_kept_commit e.1.state) s.backups
     && recovery_calm s s.round
 
 abbrev pub was_sent : TopVer → Option TopVer → Bool

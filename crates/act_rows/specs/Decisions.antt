@@ -1,7 +1,8 @@
 -- How a transaction ends at its starter: its fault, its decision, what is awaited then, and what its session is told.
-use Rattle.std.specs.Prelude.{Bool, None, Option, Some, [], false, filter, if◌then◌else◌, map, not, true, ◌&&◌, ◌++◌, ◌∷◌}
+use Rattle.std.specs.Prelude.{Bool, None, Option, Some, [], false, filter, if◌then◌else◌, not, true, ◌&&◌, ◌++◌, ◌∷◌}
 use Rattle.act_rows.specs.Steps.{desk_of, entry_of, is_live, live_among, live_holders, lost_among, noting, on_desk, on_entry, outs_to, primary_at, sent_all}
 use Rattle.base_words.specs.NextMap.{has_node}
+use Rattle.base_words.specs.Tables.{keys_in}
 use Rattle.ignite_types.specs.Names.{node_cmp, same_node, share_cmp, tx_cmp}
 use Rattle.ignite_types.specs.Placement.{holders}
 use Rattle.ignite_types.specs.declared.answer.Answer.{Answer}
@@ -196,7 +197,7 @@ left_for_each s node [] = s
 left_for_each s node (tx ∷ txs) = left_for_each (left_for_tx s tx node (entry_of s tx)) node txs
 
 abbrev pub txs_of : NodeState → List TxId
-txs_of s = map (λ (e : TxId × TxEntry). e.0) s.txs
+txs_of s = keys_in s.txs
 
 -- the near side of a loss, by transaction
 abbrev pub near_side_left : NodeState → NodeId → NodeState

@@ -2,13 +2,14 @@
 use Rattle.std.specs.List.{list_all}
 use Rattle.std.specs.Prelude.{Bool, None, Option, Some, [], false, filter, fold, if◌then◌else◌, is_some, map, not, true, ℕ, ◌&&◌, ◌++◌, ◌∷◌}
 use Rattle.act_rows.specs.Starts.{starts_all}
-use Rattle.act_rows.specs.Steps.{installed_top, is_installed, is_oldest, noting, outs_to, rows_of, sent, sent_all}
+use Rattle.act_rows.specs.Steps.{backup_cmp, installed_top, is_installed, is_oldest, noting, outs_to, rows_of, sent, sent_all}
 use Rattle.base_words.specs.Copies.{Copy}
 use Rattle.base_words.specs.Directory.{members_after, node_set, running_after, version_after}
 use Rattle.base_words.specs.NextMap.{has_node, next_map, single_of}
 use Rattle.base_words.specs.Orders.{is_lower_top, raised}
+use Rattle.base_words.specs.Tables.{keys_where, without_each}
 use Rattle.ignite_types.specs.Good.{members}
-use Rattle.ignite_types.specs.Names.{node_cmp, same_node, same_top}
+use Rattle.ignite_types.specs.Names.{node_cmp, same_node, same_top, tx_cmp}
 use Rattle.ignite_types.specs.Placement.{capped, first_owner}
 use Rattle.ignite_types.specs.declared.journal.TopoEvent.{TopoEvent}
 use Rattle.ignite_types.specs.declared.list.List.{List}
@@ -61,9 +62,9 @@ kept_copies me [] rows = []
 kept_copies me (copy ∷ copies) [] = [] ∷ kept_copies me copies []
 kept_copies me (copy ∷ copies) (row ∷ rows) = (if has_node row.owners me then copy else []) ∷ kept_copies me copies rows
 
-abbrev pub is_open_share : ShareState → Bool
-is_open_share Committed = false
-is_open_share _ = true
+abbrev pub is_kept_commit : ShareState → Bool
+is_kept_commit Committed = true
+is_kept_commit _ = false
 
 -- a new map clears the copies that are not owned in it, near caches, readers, remembered commits, and what was filled
 abbrev pub installs : NodeState → PartMap → NodeState
@@ -72,8 +73,8 @@ installs s m = noting (record s {
   stores = kept_copies s.me s.stores m.rows;
   near = [];
   readers = [];
-  shares = filter (λ (e : TxId × OwnShare). is_open_share e.1.state) s.shares;
-  backups = filter (λ (e : BackupName × BackupShare). is_open_share e.1.state) s.backups;
+  shares = without_each tx_cmp s.shares (keys_where (λ (e : TxId × OwnShare). is_kept_commit e.1.state) s.shares);
+  backups = without_each backup_cmp s.backups (keys_where (λ (e : BackupName × BackupShare). is_kept_commit e.1.state) s.backups);
   complete = [];
   claims = [];
 }) (note.Install m)
@@ -147,7 +148,7 @@ computes_if_all s = if may_compute s then computes s (next_map_seen s) else s
 -- Single: kept under its version
 abbrev pub single_row : NodeState → NodeId → TopVer → Option PartMap → List ℕ → NodeState
 single_row s from top m complete = computes_if_all (record s {
-  singles = s.singles ++ record { from = from; top = top; map = m; complete = complete } ∷ []
+  singles = s.singles ++ record { from = from; top = top; map = m; complete = complete } ∷ [];
 })
 
 -- a map is installed where none of its version or a higher one is

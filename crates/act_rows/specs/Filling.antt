@@ -47,7 +47,7 @@ claims_if_all s top = if all_filled s then sent_to_oldest s (msg.Complete top) (
 -- the partition is complete, and its marks are dropped
 abbrev pub completes : NodeState → TopVer → ℕ → NodeState
 completes s top part = claims_if_all (record (with_copy s part (without_marks (copy_at s.stores part))) {
-  complete = with_member nat_cmp s.complete part
+  complete = with_member nat_cmp s.complete part;
 }) top
 
 abbrev pub last_key : List Stored → Option Key

@@ -6,11 +6,12 @@ use Rattle.std.specs.declared.cmp.Ordering.{Ordering}
 use Rattle.act_rows.specs.Commands.{later}
 use Rattle.act_rows.specs.Decisions.{backup_finish_outs}
 use Rattle.act_rows.specs.Locks.{owns_each, releases}
-use Rattle.act_rows.specs.Steps.{holds, live_holders, on_share, outs_to, sent, sent_all, share_of, with_share}
+use Rattle.act_rows.specs.Steps.{backup_cmp, holds, live_holders, on_share, outs_to, sent, sent_all, share_of, with_share}
 use Rattle.act_rows.specs.Stores.{applied_all, found_at, version_of}
 use Rattle.base_words.specs.NearEntries.{readers_of, without_reader}
 use Rattle.base_words.specs.Orders.{raised}
 use Rattle.base_words.specs.Queues.{first_blocked}
+use Rattle.base_words.specs.Tables.{keys_in, keys_where, without_each}
 use Rattle.ignite_types.specs.Names.{key_cmp, node_cmp, same_node, tx_cmp, version_cmp}
 use Rattle.ignite_types.specs.declared.answer.Fail.{Fail}
 use Rattle.ignite_types.specs.declared.list.List.{List}
@@ -46,8 +47,8 @@ is_old tx u _ = false
 -- the earlier transactions of its session are forgotten where they are Committed
 abbrev pub forgetting : NodeState → TxId → NodeState
 forgetting s tx = record s {
-  shares = filter (λ (e : TxId × OwnShare). not (is_old tx e.0 e.1.state)) s.shares;
-  backups = filter (λ (e : BackupName × BackupShare). not (is_old tx e.0.tx e.1.state)) s.backups;
+  shares = without_each tx_cmp s.shares (keys_where (λ (e : TxId × OwnShare). is_old tx e.0 e.1.state) s.shares);
+  backups = without_each backup_cmp s.backups (keys_where (λ (e : BackupName × BackupShare). is_old tx e.0.tx e.1.state) s.backups);
 }
 
 -- Prepare.
@@ -213,7 +214,7 @@ near_wait_cmp a b = ordering_then (key_cmp a.key b.key) (node_cmp a.node b.node)
 -- NearDone: the reader is no longer awaited
 abbrev pub near_done_row : NodeState → NodeId → TxId → Key → NodeState
 near_done_row s from tx key = on_share s tx (λ (h : OwnShare). record h {
-  near = without_member near_wait_cmp h.near (record { key = key; node = from })
+  near = without_member near_wait_cmp h.near (record { key = key; node = from });
 }) (share_of s tx)
 
 -- What follows when no answer is awaited any more.
@@ -249,7 +250,7 @@ shares_on s [] = s
 shares_on s (tx ∷ txs) = shares_on (share_on s tx (share_of s tx)) txs
 
 abbrev pub own_txs : NodeState → List TxId
-own_txs s = map (λ (e : TxId × OwnShare). e.0) s.shares
+own_txs s = keys_in s.shares
 
 -- A primary sees a node leave: it is awaited no more, and is no reader.
 
@@ -259,8 +260,9 @@ share_left node h = record h {
   near = filter (λ (w : NearWait). not (same_node w.node node)) h.near;
 }
 
+abbrev pub shares_left : NodeState → NodeId → List TxId → NodeState
+shares_left s node [] = s
+shares_left s node (tx ∷ txs) = shares_left (on_share s tx (share_left node) (share_of s tx)) node txs
+
 abbrev pub primary_left : NodeState → NodeId → NodeState
-primary_left s node = record s {
-  shares = map (λ (e : TxId × OwnShare). (e.0, share_left node e.1)) s.shares;
-  readers = without_reader s.readers node;
-}
+primary_left s node = let here = shares_left s node (own_txs s) in record here { readers = without_reader here.readers node }

@@ -9,6 +9,7 @@ use Rattle.base_words.specs.Directory.{oldest_member}
 use Rattle.base_words.specs.NextMap.{held}
 use Rattle.base_words.specs.Orders.{is_node}
 use Rattle.base_words.specs.Queues.{standing_in, with_members}
+use Rattle.base_words.specs.Tables.{keys_in}
 use Rattle.base_words.specs.Verdicts.{is_settled, shares_named, verdict}
 use Rattle.ignite_types.specs.Good.{members}
 use Rattle.ignite_types.specs.Names.{node_cmp, same_node, same_tx, share_cmp, tx_cmp}
@@ -37,7 +38,7 @@ use Rattle.ignite_types.specs.declared.journal.Rec.TheVariants as note
 -- the transactions of which a lock, a waiting place or a share is here, ascending
 abbrev pub held_txs : NodeState → List TxId
 held_txs s = with_members
-    (with_members (standing_in s.queues) (map (λ (e : TxId × OwnShare). e.0) s.shares))
+    (with_members (standing_in s.queues) (keys_in s.shares))
     (map (λ (e : BackupName × BackupShare). e.0.tx) s.backups)
 
 abbrev pub orphan_txs : NodeState → List TxId
@@ -85,9 +86,9 @@ new_round place members = record { place = place; members = members; acted = fal
 -- the round before is over, and its lists are of no more use; this node's list goes to the oldest member
 abbrev pub begins_round : NodeState → ℕ → NodeState
 begins_round s place = let here = record s {
-      round = Some (new_round place s.members);
-      reports = filter (λ (r : Report). nat_le place r.round) s.reports;
-    } in sent_to_oldest here (msg.Orphans place (orphans_of here)) (oldest_seen here)
+  round = Some (new_round place s.members);
+  reports = filter (λ (r : Report). nat_le place r.round) s.reports;
+} in sent_to_oldest here (msg.Orphans place (orphans_of here)) (oldest_seen here)
 
 -- The verdicts.
 
@@ -154,9 +155,9 @@ awaits_verdict s tx nodes backups = on_round s (λ (r : Round). record r {
 abbrev pub gives_verdict : NodeState → TxId → Bool → List Share → List NodeId → NodeState
 gives_verdict s tx commit shares nodes = sent_all
     (awaits_verdict (noting (record s { verdicts = put tx_cmp s.verdicts tx commit }) (note.Decide tx commit)) tx
-      (finish_nodes s shares nodes) (orphaned s shares))
+    (finish_nodes s shares nodes) (orphaned s shares))
     (outs_to (finish_nodes s shares nodes) (msg.Finish tx commit)
-      ++ finishes_for_lost s tx commit shares (lost_among s (primaries_of shares)))
+    ++ finishes_for_lost s tx commit shares (lost_among s (primaries_of shares)))
 
 -- one transaction that was named
 abbrev pub judges : NodeState → TxId → List Member → List Orphan → List NodeId → NodeState
@@ -185,19 +186,19 @@ recovers_if_all s (Some r) = let reports = reports_for s r.place in
 -- Orphans: kept under its round
 abbrev pub orphans_row : NodeState → NodeId → ℕ → List Orphan → NodeState
 orphans_row s from round list = let here = record s {
-      reports = s.reports ++ record { round = round; from = from; list = list } ∷ []
-    } in recovers_if_all here here.round
+  reports = s.reports ++ record { round = round; from = from; list = list } ∷ [];
+} in recovers_if_all here here.round
 
 -- answers to the recoverer
 
 abbrev pub recovery_finished : NodeState → NodeId → TxId → NodeState
 recovery_finished s from tx = on_round s (λ (r : Round). record r {
-  finishes = without_member finish_wait_cmp r.finishes (record { tx = tx; node = from })
+  finishes = without_member finish_wait_cmp r.finishes (record { tx = tx; node = from });
 }) s.round
 
 abbrev pub recovery_backup_finished : NodeState → NodeId → TxId → NodeId → NodeState
 recovery_backup_finished s from tx primary = on_round s (λ (r : Round). record r {
-  backups = without_member backup_wait_cmp r.backups (record { tx = tx; primary = primary; holder = from })
+  backups = without_member backup_wait_cmp r.backups (record { tx = tx; primary = primary; holder = from });
 }) s.round
 
 -- nothing is awaited in the round any more

@@ -1,7 +1,8 @@
 -- A first access or a commit starts once the last version seen is open here: the transaction's version is fixed.
-use Rattle.std.specs.Prelude.{Bool, None, Option, Some, [], if◌then◌else◌, is_some, map, true, ℕ, ◌∷◌}
+use Rattle.std.specs.Prelude.{Bool, None, Option, Some, [], if◌then◌else◌, is_some, true, ℕ, ◌∷◌}
 use Rattle.act_rows.specs.Accesses.{access_key, does}
 use Rattle.act_rows.specs.Steps.{desk_of, entry_of, is_open, noting, on_entry}
+use Rattle.base_words.specs.Tables.{keys_in}
 use Rattle.ignite_types.specs.declared.list.List.{List}
 use Rattle.ignite_types.specs.declared.names.TopVer.{TopVer}
 use Rattle.ignite_types.specs.declared.names.TxId.{TxId}
@@ -50,7 +51,7 @@ start_each s [] = s
 start_each s (session ∷ more) = start_each (start_desk s (desk_of s session)) more
 
 abbrev pub sessions_of : NodeState → List ℕ
-sessions_of s = map (λ (d : ℕ × Desk). d.0) s.desks
+sessions_of s = keys_in s.desks
 
 -- all that waits for the version, by session, where it is open
 abbrev pub starts_all : NodeState → NodeState

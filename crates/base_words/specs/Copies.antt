@@ -1,7 +1,8 @@
 -- A partition's copy: what it has at a key, what a write does to it, and how a mover's copy is filled in batches.
 use Rattle.std.specs.Option.{option_and_then, option_map}
-use Rattle.std.specs.Prelude.{Bool, None, Option, Some, [], false, filter, if◌then◌else◌, is_some, length, map, nat_le, slice_get, take, true, unwrap_or, ℕ, ◌&&◌, ◌∷◌}
+use Rattle.std.specs.Prelude.{Bool, None, Option, Some, [], false, filter, if◌then◌else◌, is_none, is_some, length, map, nat_le, slice_get, take, true, unwrap_or, ℕ, ◌&&◌, ◌∷◌}
 use Rattle.base_words.specs.Orders.{is_less, is_lower}
+use Rattle.base_words.specs.Tables.{keys_where, without_each}
 use Rattle.base_words.specs.declared.copies.Entry.{Entry}
 use Rattle.ignite_types.specs.Names.{key_cmp}
 use Rattle.ignite_types.specs.declared.list.List.{List}
@@ -83,9 +84,12 @@ abbrev pub supplied : Copy → List Stored → Copy
 supplied copy [] = copy
 supplied copy (entry ∷ entries) = supplied (supplied_over copy entry (at key_cmp copy entry.key)) entries
 
+abbrev pub is_mark : Key × Entry → Bool
+is_mark e = is_none e.1.value
+
 -- a filled copy needs no marks
 abbrev pub without_marks : Copy → Copy
-without_marks copy = filter (λ (e : Key × Entry). is_some e.1.value) copy
+without_marks copy = without_each key_cmp copy (keys_where is_mark copy)
 
 -- the copy of a partition among those of all
 abbrev pub copy_at : List Copy → ℕ → Copy

@@ -9,4 +9,5 @@ pub mod Numbers
 pub mod Orders
 pub mod Queues
 pub mod Script
+pub mod Tables
 pub mod Verdicts

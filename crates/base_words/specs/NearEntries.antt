@@ -2,6 +2,7 @@
 use Rattle.std.specs.List.{find}
 use Rattle.std.specs.Prelude.{Bool, None, Option, Some, [], filter, if◌then◌else◌, map, not, take, unwrap_or, ℕ, ◌&&◌, ◌∷◌}
 use Rattle.base_words.specs.Orders.{is_lower}
+use Rattle.base_words.specs.Tables.{keys_in}
 use Rattle.base_words.specs.declared.near.NearEntry.{NearEntry}
 use Rattle.ignite_types.specs.Names.{key_cmp, node_cmp, same_key}
 use Rattle.ignite_types.specs.declared.list.List.{List}
@@ -46,5 +47,13 @@ readers_of readers key = unwrap_or (at key_cmp readers key) []
 abbrev pub with_reader : Readers → Key → NodeId → Readers
 with_reader readers key node = put key_cmp readers key (with_member node_cmp (readers_of readers key) node)
 
+abbrev pub reader_gone : Readers → Key → NodeId → Readers
+reader_gone readers key node = put key_cmp readers key (without_member node_cmp (readers_of readers key) node)
+
+abbrev pub readers_without : Readers → List Key → NodeId → Readers
+readers_without readers [] node = readers
+readers_without readers (key ∷ keys) node = readers_without (reader_gone readers key node) keys node
+
+-- a node that was lost is no reader of any key
 abbrev pub without_reader : Readers → NodeId → Readers
-without_reader readers node = map (λ (e : Key × List NodeId). (e.0, without_member node_cmp e.1 node)) readers
+without_reader readers node = readers_without readers (keys_in readers) node

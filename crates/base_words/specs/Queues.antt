@@ -1,6 +1,7 @@
 -- Lock queues: for each key that is held the transactions at its lock, the first of which owns it.
 use Rattle.std.specs.List.{flat_map, list_any}
 use Rattle.std.specs.Prelude.{Bool, None, Option, Some, [], filter, fold, if◌then◌else◌, map, not, slice_get, unwrap_or, ◌++◌, ◌∷◌}
+use Rattle.base_words.specs.Tables.{keys_where}
 use Rattle.ignite_types.specs.Names.{key_cmp, same_tx, tx_cmp}
 use Rattle.ignite_types.specs.declared.list.List.{List}
 use Rattle.ignite_types.specs.declared.message.Wait.{Wait}
@@ -40,7 +41,7 @@ stands_in tx queue = list_any (λ (u : TxId). same_tx tx u) queue
 
 -- the keys in whose queues the transaction stands, in the keys' order
 abbrev pub keys_of : Queues → TxId → List Key
-keys_of queues tx = map (λ (e : Key × List TxId). e.0) (filter (λ (e : Key × List TxId). stands_in tx e.1) queues)
+keys_of queues tx = keys_where (λ (e : Key × List TxId). stands_in tx e.1) queues
 
 -- the owner, where it is another transaction than this
 abbrev pub other_owner : TxId → Option TxId → Option TxId

@@ -159,7 +159,7 @@ next_place p = record { place = raised p.place; phase = phase.Fresh; ranges = p.
 -- an item that needs no command is answered the least number that is left
 abbrev pub given_out : Progress → Key × Range → Progress
 given_out p (object, range) = record (next_place p) {
-  ranges = put key_cmp p.ranges object (record { next = range.next +ℤ pos 1; last = range.last })
+  ranges = put key_cmp p.ranges object (record { next = range.next +ℤ pos 1; last = range.last });
 }
 
 abbrev pub number_told : Key × Range → Told

@@ -5,9 +5,7 @@ use crate::primary::{BackupName, BackupShare, OwnShare, Store};
 use crate::session::Desk;
 use crate::topology::{Claim, Exchange, Report, Round};
 use base_words::NearEntry;
-use ignite_types::{
-    Cache, Key, List, Member, NodeId, Out, PartMap, Rec, Single, TopVer, TxId,
-};
+use ignite_types::{Cache, Key, List, Member, NodeId, Out, PartMap, Rec, Single, TopVer, TxId};
 use ordered_set::Set;
 use ordered_table::Table;
 
