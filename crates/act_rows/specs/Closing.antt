@@ -27,8 +27,8 @@ use Rattle.node_state.specs.declared.near.TxState.TheVariants as state
 
 abbrev pub phase_over : NodeState → TxId → TxEntry → TxState → NodeState
 phase_over s tx e state.Preparing = decides s tx true
-phase_over s tx e state.Committing = ends s tx e e.fault
-phase_over s tx e state.RollingBack = ends s tx e e.fault
+phase_over s tx e state.Committing = ends s tx e.state e.outcome e.fault
+phase_over s tx e state.RollingBack = ends s tx e.state e.outcome e.fault
 phase_over s tx e _ = s
 
 abbrev pub near_on_lists : NodeState → TxId → TxEntry → List NodeId → List Share → NodeState

@@ -130,9 +130,9 @@ abbrev pub closes : NodeState → TxId → Answer → NodeState
 closes s tx a = let gone = without_tx s tx in
     on_desk gone tx.session (λ (d : Desk). record d { tx = None; block = false; ready = Some a }) (desk_of gone tx.session)
 
-abbrev pub ends : NodeState → TxId → TxEntry → Option Fault → NodeState
-ends s tx e None = closes s tx (closing_answer e.state e.outcome)
-ends s tx e (Some f) = fault_ended s tx f (desk_of s tx.session)
+abbrev pub ends : NodeState → TxId → TxState → Option Answer → Option Fault → NodeState
+ends s tx st outcome None = closes s tx (closing_answer st outcome)
+ends s tx st outcome (Some f) = fault_ended s tx f (desk_of s tx.session)
 
 -- A starter sees a node leave.
 
@@ -149,25 +149,38 @@ abbrev pub primaries_at : NodeState → List Key → List NodeId
 primaries_at s keys = primaries_from s [] keys
 
 -- undecided: the loss of a key's primary is a fault
+abbrev pub undecided_with : NodeState → TxId → NodeId → List NodeId → NodeState
+undecided_with s tx node primaries = if has_node primaries node then fails s tx (fault.NodeLost node) else s
+
 abbrev pub undecided_left : NodeState → TxId → NodeId → TxEntry → NodeState
-undecided_left s tx node e = if has_node (primaries_at s e.keys) node then fails s tx (fault.NodeLost node) else s
+undecided_left s tx node e = undecided_with s tx node (primaries_at s e.keys)
 
 abbrev pub with_shares : List Share → List Share → List Share
 with_shares set [] = set
 with_shares set (h ∷ hs) = with_shares (with_member share_cmp set h) hs
 
+-- the shares of a primary
+abbrev pub shares_under : List Share → NodeId → List Share
+shares_under shares primary = filter (λ (h : Share). same_node h.primary primary) shares
+
 -- where the lost node is a primary that is awaited, the holders of its shares are awaited too
 abbrev pub backups_after : TxEntry → NodeId → List Share
 backups_after e node = if has node_cmp e.awaited node
-    then with_shares e.backups (filter (λ (h : Share). same_node h.primary node) e.shares)
+    then with_shares e.backups (shares_under e.shares node)
     else e.backups
+
+abbrev pub live_backups : NodeState → List Share → List Share
+live_backups s shares = filter (λ (h : Share). is_live s h.holder) shares
 
 -- a lost node is awaited no more
 abbrev pub left_entry : NodeState → NodeId → TxEntry → TxEntry
 left_entry s node e = record e {
   awaited = without_member node_cmp e.awaited node;
-  backups = filter (λ (h : Share). is_live s h.holder) (backups_after e node);
+  backups = live_backups s (backups_after e node);
 }
+
+abbrev pub leaves_entry : NodeState → TxId → NodeId → NodeState
+leaves_entry s tx node = on_entry s tx (left_entry s node) (entry_of s tx)
 
 abbrev pub is_commit : TxState → Bool
 is_commit state.Committing = true
@@ -179,7 +192,7 @@ left_outs s tx node e = if has node_cmp e.awaited node
     else []
 
 abbrev pub decided_left : NodeState → TxId → NodeId → TxEntry → NodeState
-decided_left s tx node e = sent_all (on_entry s tx (left_entry s node) (entry_of s tx)) (left_outs s tx node e)
+decided_left s tx node e = sent_all (leaves_entry s tx node) (left_outs s tx node e)
 
 abbrev pub left_in_state : NodeState → TxId → NodeId → TxEntry → TxState → NodeState
 left_in_state s tx node e state.Searching = s
