@@ -91,10 +91,10 @@ deadline_at now zero = None
 deadline_at now (suc n) = Some (later now (suc n))
 
 -- begin: a new block, unless a transaction is open or has a fault that is not told yet
-abbrev pub begins : NodeState → ℕ → Desk → Mode → ℕ → Option TxId → NodeState
-begins s session d mode timeout (Some tx) = answered s session answer.TransactionOpen
-begins s session d mode timeout None =
-    answered (opens s (next_tx s session d.started) mode (deadline_at s.now timeout) true) session answer.Done
+abbrev pub begins : NodeState → ℕ → ℕ → Mode → ℕ → Option TxId → NodeState
+begins s session started mode timeout (Some tx) = answered s session answer.TransactionOpen
+begins s session started mode timeout None =
+    answered (opens s (next_tx s session started) mode (deadline_at s.now timeout) true) session answer.Done
 
 -- a fault that was not told yet is told once the rollback has ended
 abbrev pub told_if_ended : NodeState → TxId → Fault → Command → TxState → NodeState
@@ -107,45 +107,47 @@ does_if_started s tx block c None = s
 does_if_started s tx block c (Some top) = does s tx top block c
 
 -- rollback and close need no version
-abbrev pub in_sound : NodeState → TxId → Bool → Command → TxEntry → NodeState
-in_sound s tx block command.Rollback e = decides s tx false
-in_sound s tx block command.Close e = decides s tx false
-in_sound s tx block c e = does_if_started s tx block c e.top
+abbrev pub in_sound : NodeState → TxId → Bool → Command → Option TopVer → NodeState
+in_sound s tx block command.Rollback top = decides s tx false
+in_sound s tx block command.Close top = decides s tx false
+in_sound s tx block c top = does_if_started s tx block c top
 
 abbrev pub in_entry : NodeState → TxId → Bool → Command → TxEntry → Option Fault → NodeState
 in_entry s tx block c e (Some f) = told_if_ended s tx f c e.state
-in_entry s tx block c e None = in_sound s tx block c e
+in_entry s tx block c e None = in_sound s tx block c e.top
 
 abbrev pub in_transaction : NodeState → TxId → Bool → Command → Option TxEntry → NodeState
 in_transaction s tx block c None = s
 in_transaction s tx block c (Some e) = in_entry s tx block c e e.fault
 
 -- an access: of the open transaction; skipped after a told fault; or of a new transaction for itself
-abbrev pub access_row : NodeState → ℕ → Desk → Command → Option TxId → Bool → NodeState
-access_row s session d c (Some tx) skipping = in_transaction s tx d.block c (entry_of s tx)
-access_row s session d c None true = answered s session answer.Skipped
-access_row s session d c None false = opens s (next_tx s session d.started) mode.Pessimistic None false
+abbrev pub access_row : NodeState → ℕ → ℕ → Bool → Command → Option TxId → Bool → NodeState
+access_row s session started block c (Some tx) skipping = in_transaction s tx block c (entry_of s tx)
+access_row s session started block c None true = answered s session answer.Skipped
+access_row s session started block c None false = opens s (next_tx s session started) mode.Pessimistic None false
 
 -- the block whose fault was told is over
 abbrev pub skips_end : NodeState → ℕ → NodeState
 skips_end s session = on_desk s session (λ (d : Desk). record d { skipping = false; ready = Some answer.Skipped }) (desk_of s session)
 
 -- commit, rollback and close: of the open transaction; skipped after a told fault; or of none
-abbrev pub end_row : NodeState → ℕ → Desk → Command → Option TxId → Bool → NodeState
-end_row s session d c (Some tx) skipping = in_transaction s tx d.block c (entry_of s tx)
-end_row s session d c None true = skips_end s session
-end_row s session d c None false = answered s session answer.NoTransaction
+abbrev pub end_row : NodeState → ℕ → Bool → Command → Option TxId → Bool → NodeState
+end_row s session block c (Some tx) skipping = in_transaction s tx block c (entry_of s tx)
+end_row s session block c None true = skips_end s session
+end_row s session block c None false = answered s session answer.NoTransaction
 
 abbrev pub sleeps : NodeState → ℕ → ℕ → NodeState
 sleeps s session n = on_desk s session (λ (d : Desk). record d { wake = Some (later s.now n) }) (desk_of s session)
 
-abbrev pub command_row : NodeState → ℕ → Desk → Command → NodeState
-command_row s session d (command.Begin mode timeout) = begins s session d mode timeout d.tx
-command_row s session d (command.Sleep n) = sleeps s session n
-command_row s session d command.Commit = end_row s session d command.Commit d.tx d.skipping
-command_row s session d command.Rollback = end_row s session d command.Rollback d.tx d.skipping
-command_row s session d command.Close = end_row s session d command.Close d.tx d.skipping
-command_row s session d c = access_row s session d c d.tx d.skipping
+-- a command, by what its session stands at: how many transactions it has started, whether a block is open or skipped, and
+-- its transaction
+abbrev pub command_row : NodeState → ℕ → ℕ → Bool → Bool → Option TxId → Command → NodeState
+command_row s session started block skipping tx (command.Begin mode timeout) = begins s session started mode timeout tx
+command_row s session started block skipping tx (command.Sleep n) = sleeps s session n
+command_row s session started block skipping tx command.Commit = end_row s session block command.Commit tx skipping
+command_row s session started block skipping tx command.Rollback = end_row s session block command.Rollback tx skipping
+command_row s session started block skipping tx command.Close = end_row s session block command.Close tx skipping
+command_row s session started block skipping tx c = access_row s session started block c tx skipping
 
 -- the command waits for its answer
 abbrev pub pends : NodeState → ℕ → Command → NodeState
@@ -154,7 +156,8 @@ pends s session c = on_desk s session (λ (d : Desk). record d { pending = Some 
 -- the command is noted and pending, and then its row is done
 abbrev pub takes : NodeState → ℕ → Desk → Option Command → NodeState
 takes s session d None = s
-takes s session d (Some c) = command_row (noting (pends s session c) (note.Call session c)) session d c
+takes s session d (Some c) =
+    command_row (noting (pends s session c) (note.Call session c)) session d.started d.block d.skipping d.tx c
 
 abbrev pub takes_at : NodeState → ℕ → Option Desk → NodeState
 takes_at s session None = s

@@ -18,9 +18,12 @@ NearCache = List NearEntry
 abbrev pub near_entry : NearCache → Key → Option NearEntry
 near_entry near key = find (λ (e : NearEntry). same_key e.key key) near
 
+abbrev pub others_of_key : NearCache → NearEntry → NearCache
+others_of_key near entry = filter (λ (e : NearEntry). not (same_key e.key entry.key)) near
+
 -- the entry comes to the front, in place of one of its key
 abbrev pub near_front : NearCache → NearEntry → NearCache
-near_front near entry = entry ∷ filter (λ (e : NearEntry). not (same_key e.key entry.key)) near
+near_front near entry = entry ∷ others_of_key near entry
 
 -- an entry is put in front; past the size the last one is dropped
 abbrev pub near_put : ℕ → NearCache → NearEntry → NearCache
@@ -30,11 +33,17 @@ near_put size near entry = take size (near_front near entry)
 abbrev pub is_updated : Key → CacheVersion → NearEntry → Bool
 is_updated key ver entry = same_key entry.key key && is_lower entry.ver ver
 
+abbrev pub others_than : NearCache → Key → CacheVersion → NearCache
+others_than near key ver = filter (λ (e : NearEntry). not (is_updated key ver e)) near
+
+abbrev pub renewed : NearCache → Key → List ℕ → CacheVersion → NearCache
+renewed near key value ver =
+    map (λ (e : NearEntry). if is_updated key ver e then record { key = key; value = value; ver = ver } else e) near
+
 -- an update changes an older entry at its place, and a removal takes it out
 abbrev pub near_updated : NearCache → Key → Option (List ℕ) → CacheVersion → NearCache
-near_updated near key None ver = filter (λ (e : NearEntry). not (is_updated key ver e)) near
-near_updated near key (Some value) ver =
-    map (λ (e : NearEntry). if is_updated key ver e then record { key = key; value = value; ver = ver } else e) near
+near_updated near key None ver = others_than near key ver
+near_updated near key (Some value) ver = renewed near key value ver
 
 -- Readers: for each key the nodes to which updates go, ascending.
 

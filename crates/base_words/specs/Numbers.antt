@@ -1,36 +1,38 @@
 -- Values that are numbers: their one form, and sums that stay in 64 bits.
 use Rattle.std.specs.Fmt.{signed_decimal}
 use Rattle.std.specs.List.{list_all}
-use Rattle.std.specs.Prelude.{Bool, Err, None, Ok, Option, Result, Some, [], false, if◌then◌else◌, int_le, int_lt, length, nat_eq, nat_le, neg_ℤ, pos, ℕ, ℤ, ◌&&◌, ◌+ℤ◌, ◌==◌, ◌^◌, ◌∷◌}
+use Rattle.std.specs.Option.{option_map}
+use Rattle.std.specs.Prelude.{Bool, Err, None, Ok, Option, Result, Some, [], bytes_eq, codes, false, if◌then◌else◌, int_le, length, nat_le, negsuc, not, pos, ℕ, ℤ, ◌&&◌, ◌+ℤ◌, ◌-◌, ◌==◌, ◌∷◌}
 use Rattle.std.specs.Str.Parse.{digits_value}
+use Rattle.ignite_types.specs.Texts.{is_digit}
 use Rattle.ignite_types.specs.declared.answer.Answer.{Answer}
 use Rattle.ignite_types.specs.declared.list.List.{List}
 use Rattle.ignite_types.specs.declared.answer.Answer.TheVariants as answer
 
-abbrev pub is_digit : ℕ → Bool
-is_digit b = nat_le 48 b && nat_le b 57
+-- digits with no 0 in front, at most the 19 that the greatest number has
+abbrev pub is_natural : List ℕ → Bool
+is_natural [] = false
+is_natural (first ∷ more) = not (first == 48) && nat_le (length (first ∷ more)) 19 && list_all is_digit (first ∷ more)
 
--- a digit from 1 on, and further digits
-abbrev pub is_numeral : List ℕ → Bool
-is_numeral [] = false
-is_numeral (b ∷ bs) = nat_le 49 b && nat_le b 57 && list_all is_digit bs
+-- the number from 1 to `most` that they spell
+abbrev pub natural : ℕ → List ℕ → Option ℕ
+natural most text =
+    if not (is_natural text) then None else (if nat_le (digits_value 10 text) most then Some (digits_value 10 text) else None)
 
-abbrev pub fits_64 : ℤ → Bool
-fits_64 z = int_le (neg_ℤ (pos (2 ^ 63))) z && int_lt z (pos (2 ^ 63))
-
-abbrev pub in_64 : ℤ → Option ℤ
-in_64 z = if fits_64 z then Some z else None
-
-abbrev pub positive_of : List ℕ → Option ℤ
-positive_of bytes = if is_numeral bytes then in_64 (pos (digits_value 10 bytes)) else None
-
-abbrev pub negative_of : List ℕ → Option ℤ
-negative_of bytes = if is_numeral bytes then in_64 (neg_ℤ (pos (digits_value 10 bytes))) else None
+-- as far below 0 as the number is above
+abbrev pub below_zero : ℕ → ℤ
+below_zero n = if n == 0 then pos 0 else negsuc (n - 1)
 
 -- the number of a value: `0`, or a digit 1 to 9 and further digits, with a `-` before it or not, in 64 bits
 abbrev pub number_of : List ℕ → Option ℤ
 number_of [] = None
-number_of (b ∷ bs) = if (b == 48) && nat_eq (length bs) 0 then Some (pos 0) else if b == 45 then negative_of bs else positive_of (b ∷ bs)
+number_of (first ∷ digits) =
+    if bytes_eq (first ∷ digits) (codes "0") then Some (pos 0)
+    else (if first == 45 then option_map below_zero (natural 9223372036854775808 digits)
+    else option_map pos (natural 9223372036854775807 (first ∷ digits)))
+
+abbrev pub fits_64 : ℤ → Bool
+fits_64 z = int_le (negsuc 9223372036854775807) z && int_le z (pos 9223372036854775807)
 
 -- the sum as a value, or why there is none
 abbrev pub sum_in_64 : ℤ → Result (List ℕ) Answer

@@ -19,14 +19,14 @@ fn ends_block(command: &Command) -> bool
 }
 
 /// The session has no transaction any more, and is told the fault.
-fn told_desk(fault: Fault, command: &Command, desk: Desk) -> Desk
-    ensures { result ≡ told_desk fault command.now desk }
+fn told_desk(fault: &Fault, command: &Command, desk: Desk) -> Desk
+    ensures { result ≡ told_desk fault.now command.now desk }
 {
     let mut next = desk;
     next.tx = None;
     next.skipping = next.block && !ends_block(command);
     next.block = false;
-    next.ready = Some(Answer::Failed(fault));
+    next.ready = Some(Answer::Failed(*fault));
     next
 }
 
@@ -38,8 +38,8 @@ fn drop_entry(node: &mut Node, tx: &TxId)
 
 /// The session is told the fault of its transaction, by this command; further accesses of a block are skipped.
 #[tactic(auto, using(act_rows::proofs::TableLaws::nat_put_put))]
-pub fn tell(node: &mut Node, tx: TxId, fault: Fault, command: &Command) -> Mem<()>
-    ensures { OnOk result (node.new ≡ tells node.old tx fault command.now) }
+pub fn tell(node: &mut Node, tx: TxId, fault: &Fault, command: &Command) -> Mem<()>
+    ensures { OnOk result (node.new ≡ tells node.old tx fault.now command.now) }
 {
     drop_entry(node, &tx);
     let Some(desk) = node.take_desk(tx.session) else {
@@ -72,8 +72,8 @@ fn waiting_command(desk: &Desk) -> Option<Command>
 }
 
 /// A rollback by fault has ended: the command that waits is told, or else a later one.
-fn fault_ended(node: &mut Node, tx: TxId, fault: Fault) -> Mem<()>
-    ensures { OnOk result (node.new ≡ fault_ended node.old tx fault (desk_of node.old tx.session)) }
+fn fault_ended(node: &mut Node, tx: TxId, fault: &Fault) -> Mem<()>
+    ensures { OnOk result (node.new ≡ fault_ended node.old tx fault.now (desk_of node.old tx.session)) }
 {
     match node.desk(tx.session) {
         Some(desk) => match waiting_command(desk) {
@@ -121,7 +121,7 @@ pub fn end(
     ensures { OnOk result (node.new ≡ ends node.old tx state outcome fault) }
 {
     match fault {
-        Some(fault) => fault_ended(node, tx, fault),
+        Some(fault) => fault_ended(node, tx, &fault),
         None => close(node, tx, closing_answer(state, outcome)),
     }
 }
