@@ -1,7 +1,8 @@
 -- A node's inbox: for each sender a list of messages, the oldest first, and whether the link is held.
 use Rattle.std.specs.Option.{option_and_then}
-use Rattle.std.specs.Prelude.{Bool, None, Option, Some, [], drop, false, if◌then◌else◌, map, slice_get, true, ◌++◌, ◌∷◌}
+use Rattle.std.specs.Prelude.{Bool, None, Option, Some, [], drop, false, if◌then◌else◌, slice_get, true, ◌++◌, ◌∷◌}
 use Rattle.base_words.specs.NextMap.{held}
+use Rattle.base_words.specs.Tables.{keys_in}
 use Rattle.ignite_types.specs.Names.{node_cmp}
 use Rattle.ignite_types.specs.declared.list.List.{List}
 use Rattle.ignite_types.specs.declared.message.Message.{Message}
@@ -60,6 +61,10 @@ with_hold inbox from held = on_link inbox from (λ link. record link { held = he
 abbrev pub emptied : Inbox → NodeId → Inbox
 emptied inbox from = on_link inbox from (λ link. record link { messages = [] }) (link_of inbox from)
 
+abbrev pub emptied_each : Inbox → List NodeId → Inbox
+emptied_each inbox [] = inbox
+emptied_each inbox (from ∷ more) = emptied_each (emptied inbox from) more
+
 -- the inbox of a lost node: empty and closed
 abbrev pub shut : Inbox → Inbox
-shut inbox = record { closed = true; links = map (λ e. (e.0, record e.1 { messages = [] })) inbox.links }
+shut inbox = record (emptied_each inbox (keys_in inbox.links)) { closed = true }

@@ -2,7 +2,8 @@
 
 ghost use Rattle.std.specs.Prelude.{◌≡◌, ◌++◌, false, [], ◌∷◌, drop, slice_get, OnOk, IfOk, MatchOption};
 ghost use Rattle.std.specs.Option.{option_copied};
-ghost use Rattle.act_rows.specs.Links.{is_held, new_inbox, oldest, popped, pushed};
+ghost use Rattle.base_words.specs.Links.{emptied, emptied_each, is_held, new_inbox, oldest, popped, pushed, shut, with_hold};
+ghost use Rattle.base_words.specs.Tables.{keys_in};
 ghost use Rattle.link_memory.specs.Taking.{TakesLink, TakesNoLink};
 
 use ignite_types::{List, Mem, Message, NodeId};
@@ -18,7 +19,7 @@ pub struct Link {
 }
 
 impl Model for Link {
-    ghost use Rattle.act_rows.specs.Links.{Link as LinkValue};
+    ghost use Rattle.base_words.specs.Links.{Link as LinkValue};
 
     ghost Value = { LinkValue };
 
@@ -34,7 +35,7 @@ pub struct Inbox {
 }
 
 impl Model for Inbox {
-    ghost use Rattle.act_rows.specs.Links.{Inbox as InboxValue};
+    ghost use Rattle.base_words.specs.Links.{Inbox as InboxValue};
 
     ghost Value = { InboxValue };
 
@@ -85,6 +86,12 @@ impl Link {
         ensures { self.new ≡ record self.old { held = held } }
     {
         self.held = held;
+    }
+
+    fn clear(&mut self, alloc: Global)
+        ensures { self.new ≡ record self.old { messages = [] } }
+    {
+        self.messages = List::new(alloc);
     }
 }
 
@@ -166,5 +173,56 @@ impl Inbox {
             Some(link) => link.is_held(),
             None => false,
         }
+    }
+
+    /// Holds the link from a sender, or lets it go on.
+    #[tactic(auto, using(crate::proofs::LinkLaws::node_put_put, crate::proofs::LinkLaws::node_put_there))]
+    pub fn hold(&mut self, from: NodeId, held: bool)
+        ensures { self.new ≡ with_hold self.old from held }
+    {
+        if let Some(mut link) = self.take_link(from) {
+            link.hold(held);
+            let _vacant = self.links.replace(from, link);
+        }
+    }
+
+    /// Empties the link from a sender, which was lost.
+    #[tactic(auto, using(crate::proofs::LinkLaws::node_put_put, crate::proofs::LinkLaws::node_put_there))]
+    pub fn drop_node(&mut self, from: NodeId)
+        ensures { self.new ≡ emptied self.old from }
+    {
+        if let Some(mut link) = self.take_link(from) {
+            link.clear(self.alloc);
+            let _vacant = self.links.replace(from, link);
+        }
+    }
+
+    /// The senders, ascending.
+    fn senders(&self) -> Mem<List<NodeId>>
+        ensures { IfOk result (λ senders. senders ≡ keys_in self.now.links) }
+    {
+        let mut senders = List::new(self.alloc);
+        for (sender, _) in self.links.as_slice() {
+            senders.push(*sender)?;
+        }
+        Ok(senders)
+    }
+
+    fn empty_each(&mut self, senders: &[NodeId])
+        ensures { self.new ≡ emptied_each self.old senders.now }
+    {
+        for sender in senders {
+            self.drop_node(*sender);
+        }
+    }
+
+    /// Empties and closes the inbox; nothing else closes one.
+    pub fn shut(&mut self) -> Mem<()>
+        ensures { OnOk result (self.new ≡ shut self.old) }
+    {
+        let senders = self.senders()?;
+        self.empty_each(senders.as_slice());
+        self.closed = true;
+        Ok(())
     }
 }
