@@ -1,1 +1,2 @@
 pub mod NextMap
+pub mod Shares

@@ -93,7 +93,12 @@ abbrev pub next_row : List Member → List Single → TopVer → ℕ → List No
 next_row members singles version part [] row = record { owners = []; movers = [] }
 next_row members singles version part wanted row = running_row members singles version part wanted row row.owners
 
--- the first of the base's rows that are left; a partition that the base lacks has no holders there
+-- a partition that the base lacks has no holders there
+abbrev pub row_or_bare : Option Row → Row
+row_or_bare None = record { owners = []; movers = [] }
+row_or_bare (Some row) = row
+
+-- the first of the base's rows that are left
 abbrev pub first_row : List Row → Row
 first_row [] = record { owners = []; movers = [] }
 first_row (row ∷ rows) = row
@@ -112,7 +117,7 @@ map_after top members caches running singles before =
     record {
       top = top;
       parts = map (λ (cache : Cache). cache.parts) caches;
-      rows = next_rows members singles before.top 0 (opening_rows (servers members) running 0 caches) before.rows
+      rows = next_rows members singles before.top 0 (opening_rows (servers members) running 0 caches) before.rows;
     }
 
 -- the map of a version from the singles of its members, `running` being the caches of the version
