@@ -2,9 +2,13 @@
 #![tactic(auto)]
 
 mod held;
+mod maps;
 mod newest;
 mod next;
 mod opening;
+mod shares;
 
+pub use ignite_types::{Member, PartMap, Row, Share, Single};
+pub use maps::PartMaps;
 pub use next::next_map;
 pub use opening::opening_map;
