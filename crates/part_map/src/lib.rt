@@ -7,6 +7,8 @@ mod newest;
 mod next;
 mod opening;
 mod shares;
+#[cfg(test)]
+mod tests;
 
 pub use ignite_types::{Member, PartMap, Row, Share, Single};
 pub use maps::PartMaps;
