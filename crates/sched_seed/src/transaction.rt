@@ -13,6 +13,7 @@ use std::alloc::Global;
 const KEYS: u32 = 16;
 
 /// The words that a transaction is made from.
+#[derive(Clone, Copy)]
 struct Words {
     mode: u32,
     from: u32,
@@ -91,8 +92,8 @@ fn push_moves(alloc: Global, commands: &mut List<Item>, from: u32, to: u32, amou
 }
 
 /// Adds the commands of one transaction.
-fn push_transaction(alloc: Global, commands: &mut List<Item>, words: &Words) -> Mem<()>
-    ensures { OnOk result (commands.new ≡ commands.old ++ transaction words.now) }
+fn push_transaction(alloc: Global, commands: &mut List<Item>, words: Words) -> Mem<()>
+    ensures { OnOk result (commands.new ≡ commands.old ++ transaction words) }
 {
     let from = words.from % KEYS;
     let to = other_than(from, words.to % KEYS);
@@ -110,7 +111,7 @@ pub(crate) fn script(alloc: Global, txs: u32, generator: &mut Lcg64Xsh32) -> Mem
     let mut commands = List::new(alloc);
     for _ in 0..txs {
         let words = draw(generator);
-        push_transaction(alloc, &mut commands, &words)?;
+        push_transaction(alloc, &mut commands, words)?;
     }
     Ok(commands)
 }
