@@ -114,6 +114,7 @@ pub fn make_scenario(alloc: Global, seed: u64, sessions: u32, txs: u32) -> Mem<S
     requires few_sessions { sessions ≤ 64 }
     requires few_txs { txs ≤ 100 }
     ensures value { IfOk result (λ scenario. scenario ≡ generated seed sessions txs) }
+    ensures good { IfOk result (λ scenario. IsTrue (good scenario)) }
 {
     let mut generator = Lcg64Xsh32::new(seed, SCENARIOS);
     let sessions = sessions_of(alloc, sessions, txs, &mut generator)?;

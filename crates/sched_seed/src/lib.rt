@@ -3,6 +3,8 @@
 
 mod generated;
 mod picker;
+#[cfg(test)]
+mod tests;
 mod transaction;
 
 pub use generated::make_scenario;

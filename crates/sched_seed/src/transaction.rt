@@ -50,7 +50,6 @@ pub(crate) fn numbered(alloc: Global, letter: u8, number: u32) -> Mem<List<u8>>
 
 /// The key of a number.
 fn key_of(alloc: Global, number: u32) -> Mem<Key>
-    requires { number < KEYS }
     ensures { IfOk result (λ key. key ≡ key_of number) }
 {
     let bytes = numbered(alloc, b'k', number)?;
@@ -80,8 +79,6 @@ fn other_than(from: u32, to: u32) -> u32
 
 /// Adds the commands that take an amount from one key and add it to another.
 fn push_moves(alloc: Global, commands: &mut List<Item>, from: u32, to: u32, amount: u32) -> Mem<()>
-    requires first { from < KEYS }
-    requires second { to < KEYS }
     ensures { OnOk result (commands.new ≡ commands.old ++ moves from to amount) }
 {
     let amount = i64::from(amount);
