@@ -1,5 +1,5 @@
 -- A generated scenario is good.
-use Rattle.std.proofs.Common.{◌≡◌, ℕ, zero, suc, ◌+◌, ◌*◌, ◌%◌, ◌<◌, ◌≤◌, Bool, true, false, not, cond, ◌&&◌, nat_le, bytes_eq, List, [], ◌∷◌, ◌++◌, length, map, filter_map, flat_map, slice_index, Option, None, refl, sym, ap, ◌∙◌, arith, length-append}
+use Rattle.std.proofs.Common.{◌≡◌, ℕ, zero, suc, ◌+◌, ◌*◌, ◌%◌, ◌<◌, ◌≤◌, Bool, true, false, not, cond, ◌&&◌, nat_le, bytes_eq, List, [], ◌∷◌, ◌++◌, length, filter_map, flat_map, slice_index, refl, ap, ◌∙◌, arith}
 use Rattle.std.specs.Prelude.{◌==◌, IsTrue}
 use Rattle.std.specs.List.{list_all, list_any}
 use Rattle.std.specs.Fmt.{digits}
@@ -13,11 +13,11 @@ use Rattle.ignite_types.specs.declared.scenario.Mode.TheVariants.{Pessimistic, O
 use Rattle.ignite_types.specs.declared.scenario.Member.{Member}
 use Rattle.ignite_types.specs.declared.scenario.Session.{Session}
 use Rattle.ignite_types.specs.declared.scenario.Scenario.{Scenario}
-use Rattle.ignite_types.specs.Good.{are_distinct, good, good_blocks, good_item, good_key, good_kinds, good_session, good_sessions, has_member, is_name, object_of, same_session_name}
+use Rattle.ignite_types.specs.Good.{are_distinct, good, good_blocks, good_item, good_key, good_kinds, good_session, has_member, is_name, object_of, same_session_name}
 use Rattle.rand_pcg.specs.Lcg.{Lcg}
 use Rattle.sched_seed.specs.declared.transaction.Words.{Words}
 use Rattle.sched_seed.specs.Generated.{caches, client, generated, home, node, server, session, sessions_from}
-use Rattle.sched_seed.specs.Transactions.{after_script, after_words, begin_of, key_of, moves, numbered, other_than, script, transaction, words_of}
+use Rattle.sched_seed.specs.Transactions.{after_script, after_words, key_of, moves, numbered, other_than, script, transaction, words_of}
 use Rattle.sched_seed.specs.Words.{generator}
 use Rattle.sched_seed.proofs.Below.{all_below, passes_below}
 

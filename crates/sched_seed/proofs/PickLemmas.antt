@@ -1,7 +1,7 @@
 -- The picks of a picker, one after the other, are those of its seed.
 use Rattle.std.proofs.Common.{◌≡◌, ℕ, zero, suc, ◌+◌, ◌%◌, Bool, true, false, Option, Some, None, refl, ap, ◌∙◌, add-one}
 use Rattle.std.specs.Prelude.{◌==◌, cond, if◌then◌else◌}
-use Rattle.rand_pcg.specs.Lcg.{Lcg, advance, next_state, state_after}
+use Rattle.rand_pcg.specs.Lcg.{Lcg, next_state, state_after}
 use Rattle.rand_pcg.specs.Pcg.{multiplier_64}
 use Rattle.sched_seed.specs.Words.{after_word, generator, generator_at, word}
 use Rattle.sched_seed.specs.Picks.{after_pick, next_pick, pick, picker_at}

@@ -12,7 +12,7 @@ one_left done all h = omega arith
 
 pub script_pushed : (done txs : ℕ) (commands pushed whole : List Item) (words : Words) (g next : Lcg) → done < txs → words ≡ words_of g → next ≡ after_words g → pushed ≡ commands ++ transaction words → commands ++ script (txs - done) g ≡ whole → pushed ++ script (txs - (done + 1)) next ≡ whole
 script_pushed done txs commands pushed whole words g next h drawn rest is before =
-    rw (is, append_assoc, drawn, rest) (rw (one_left done txs h) at before)
+    rw (is, append_assoc commands _ _, drawn, rest) (rw (one_left done txs h) at before)
 
 pub script_passed : (done txs : ℕ) (whole g next : Lcg) → done < txs → next ≡ after_words g → after_script (txs - done) g ≡ whole → after_script (txs - (done + 1)) next ≡ whole
 script_passed done txs whole g next h rest before = rw rest (rw (one_left done txs h) at before)

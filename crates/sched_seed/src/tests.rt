@@ -4,17 +4,17 @@ use crate::{Picker, make_scenario};
 use ignite_types::{Command, Item, Key, Mode, NodeId, TextFault};
 use std::test::Fail;
 
-/// The commands that move an amount from one key to another, with their `begin`.
-fn moving(begin: Command, from: &[u8], to: &[u8], amount: i32) -> Result<[Item; 5], TextFault> {
+/// A transaction that moves an amount from one key to another.
+fn moving(mode: Mode, from: &[u8], to: &[u8], amount: i32) -> Result<[Item; 5], TextFault> {
+    let timeout = if mode == Mode::Pessimistic { 50 } else { 0 };
     let amount = i64::from(amount);
-    let commands = [
-        begin,
-        Command::Add(Key::read(from)?, -amount),
-        Command::Add(Key::read(to)?, amount),
-        Command::Commit,
-        Command::Sleep(1),
-    ];
-    Ok(commands.map(|command| Item::Plain(command)))
+    Ok([
+        Item::Plain(Command::Begin(mode, timeout)),
+        Item::Plain(Command::Add(Key::read(from)?, -amount)),
+        Item::Plain(Command::Add(Key::read(to)?, amount)),
+        Item::Plain(Command::Commit),
+        Item::Plain(Command::Sleep(1)),
+    ])
 }
 
 #[test]
@@ -43,13 +43,11 @@ fn generates_a_scenario(rt: HostRuntime) -> Result<(), Fail> {
     assert_eq!(rt; second.node, NodeId(3));
     assert_eq!(rt; second.commands.len(), 15);
 
-    let patient = Command::Begin(Mode::Pessimistic, 50);
-    let checked = Command::Begin(Mode::Optimistic, 0);
-    let opening = moving(patient, b"k2", b"k15", 62)?;
+    let opening = moving(Mode::Pessimistic, b"k2", b"k15", 62)?;
     assert_eq!(rt; &first.commands.as_slice()[..5], opening.as_slice());
-    let next = moving(checked, b"k3", b"k11", 18)?;
+    let next = moving(Mode::Optimistic, b"k3", b"k11", 18)?;
     assert_eq!(rt; &first.commands.as_slice()[5..10], next.as_slice());
-    let last = moving(patient, b"k14", b"k0", 74)?;
+    let last = moving(Mode::Pessimistic, b"k14", b"k0", 74)?;
     assert_eq!(rt; &second.commands.as_slice()[10..], last.as_slice());
     Ok(())
 }
@@ -57,7 +55,7 @@ fn generates_a_scenario(rt: HostRuntime) -> Result<(), Fail> {
 #[test]
 fn moves_between_two_keys(rt: HostRuntime) -> Result<(), Fail> {
     let scenario = make_scenario(rt.alloc(), 21, 1, 1)?;
-    let want = moving(Command::Begin(Mode::Pessimistic, 50), b"k8", b"k9", 96)?;
+    let want = moving(Mode::Pessimistic, b"k8", b"k9", 96)?;
     for session in scenario.sessions.as_slice() {
         assert_eq!(rt; session.commands.as_slice(), want.as_slice());
     }
