@@ -1,11 +1,10 @@
 //! Which nodes hold a complete copy of a partition.
 
-ghost use Rattle.std.specs.Prelude.{◌≡◌, ◌==◌, ◌++◌, filter, IfOk, OnOk};
-ghost use Rattle.std.specs.List.{list_any};
-ghost use Rattle.std.specs.Option.{option_copied};
-ghost use Rattle.part_map.specs.NextMap.{has_node, held, is_claimed, is_filled, is_member, is_under, missing, single_of};
+ghost use Rattle.std.specs.Prelude.{◌≡◌, ◌<◌, ◌++◌, filter, IfOk, OnOk};
+ghost use Rattle.part_map.specs.NextMap.{has_node, held, is_filled, is_member, missing};
 
-use ignite_types::{List, Mem, Member, NodeId, PartMap, Row, Single, TopVer};
+use crate::claims::Claims;
+use ignite_types::{List, Mem, Member, NodeId, Row};
 use std::alloc::Global;
 
 fn has_node(nodes: &[NodeId], node: NodeId) -> bool
@@ -20,52 +19,12 @@ fn is_member(members: &[Member], node: NodeId) -> bool
     members.iter().any(|member| node.0 == member.node.0)
 }
 
-/// The node's single, where there is one.
-fn single_of(singles: &[Single], node: NodeId) -> Option<&Single>
-    ensures { option_copied result ≡ single_of singles.now node }
-{
-    singles.iter().find(|single| node.0 == single.from.0)
-}
-
-/// Whether a single was sent under the map of this version.
-fn is_under(version: TopVer, map: Option<&PartMap>) -> bool
-    ensures { result ≡ is_under version (option_copied map.entry) }
-{
-    match map {
-        Some(map) => version.major == map.top.major && version.minor == map.top.minor,
-        None => false,
-    }
-}
-
-fn lists(complete: &[u32], part: usize) -> bool
-    ensures { result ≡ list_any (λ p. p == part) complete.now }
-{
-    complete.iter().any(|p| *p as usize == part)
-}
-
-/// Whether a single has the base's version and lists the partition as complete.
-fn is_claimed(version: TopVer, part: usize, single: Option<&Single>) -> bool
-    ensures { result ≡ is_claimed version part (option_copied single.entry) }
-{
-    match single {
-        Some(single) => {
-            is_under(version, single.map.as_ref()) && lists(single.complete.as_slice(), part)
-        }
-        None => false,
-    }
-}
-
 /// Whether a mover of the base holds a complete copy.
-fn is_filled(
-    members: &[Member],
-    singles: &[Single],
-    version: TopVer,
-    part: usize,
-    node: NodeId,
-) -> bool
-    ensures { result ≡ is_filled members.now singles.now version part node }
+fn is_filled(members: &[Member], claims: &Claims, part: usize, node: NodeId) -> bool
+    requires { part < claims.now.parts }
+    ensures { result ≡ is_filled members.now claims.now.singles.now claims.now.version part node }
 {
-    is_member(members, node) && is_claimed(version, part, single_of(singles, node))
+    is_member(members, node) && claims.has(part, node)
 }
 
 /// Adds those of the nodes that are members.
@@ -84,15 +43,15 @@ fn push_members(holders: &mut List<NodeId>, members: &[Member], nodes: &[NodeId]
 fn push_filled(
     holders: &mut List<NodeId>,
     members: &[Member],
-    singles: &[Single],
-    version: TopVer,
+    claims: &Claims,
     part: usize,
     movers: &[NodeId],
 ) -> Mem<()>
-    ensures { OnOk result (holders.new ≡ holders.old ++ filter (is_filled members.now singles.now version part) movers.now) }
+    requires { part < claims.now.parts }
+    ensures { OnOk result (holders.new ≡ holders.old ++ filter (is_filled members.now claims.now.singles.now claims.now.version part) movers.now) }
 {
     for node in movers {
-        if is_filled(members, singles, version, part, *node) {
+        if is_filled(members, claims, part, *node) {
             holders.push(*node)?;
         }
     }
@@ -103,17 +62,17 @@ fn push_filled(
 pub(crate) fn held(
     alloc: Global,
     members: &[Member],
-    singles: &[Single],
-    version: TopVer,
+    claims: &Claims,
     part: usize,
     row: &Row,
 ) -> Mem<List<NodeId>>
-    ensures { IfOk result (λ holders. holders ≡ held members.now singles.now version part row.now) }
+    requires { part < claims.now.parts }
+    ensures { IfOk result (λ holders. holders ≡ held members.now claims.now.singles.now claims.now.version part row.now) }
 {
     let mut holders = List::new(alloc);
     push_members(&mut holders, members, row.owners.as_slice())?;
     let movers = row.movers.as_slice();
-    push_filled(&mut holders, members, singles, version, part, movers)?;
+    push_filled(&mut holders, members, claims, part, movers)?;
     Ok(holders)
 }
 

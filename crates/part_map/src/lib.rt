@@ -1,6 +1,7 @@
 //! The map of partitions: which nodes hold each of them.
 #![tactic(auto)]
 
+mod claims;
 mod held;
 mod maps;
 mod newest;

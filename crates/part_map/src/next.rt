@@ -1,9 +1,10 @@
 //! The map of a version that follows another.
 
-ghost use Rattle.std.specs.Prelude.{◌≡◌, [], unwrap_or, IfOk};
+ghost use Rattle.std.specs.Prelude.{◌≡◌, ◌<◌, ◌≤◌, [], length, unwrap_or, IfOk};
 ghost use Rattle.std.specs.Option.{option_copied};
 ghost use Rattle.part_map.specs.NextMap.{next_map, next_row, next_rows, no_map, row_of_holders, row_or_bare, running_row, servers};
 
+use crate::claims::Claims;
 use crate::held::{held, missing};
 use crate::newest::newest;
 use crate::opening::{opening_rows, parts_of};
@@ -51,18 +52,18 @@ fn row_of_holders(alloc: Global, wanted: &[NodeId], holders: List<NodeId>) -> Me
 fn running_row(
     alloc: Global,
     members: &[Member],
-    singles: &[Single],
-    version: TopVer,
+    claims: &Claims,
     part: usize,
     wanted: &[NodeId],
     row: &Row,
 ) -> Mem<Row>
-    ensures { IfOk result (λ next. next ≡ running_row members.now singles.now version part wanted.now row.now row.now.owners) }
+    requires { part < claims.now.parts }
+    ensures { IfOk result (λ next. next ≡ running_row members.now claims.now.singles.now claims.now.version part wanted.now row.now row.now.owners) }
 {
     if row.owners.is_empty() {
         return owned_by(alloc, wanted);
     }
-    let holders = held(alloc, members, singles, version, part, row)?;
+    let holders = held(alloc, members, claims, part, row)?;
     row_of_holders(alloc, wanted, holders)
 }
 
@@ -71,17 +72,17 @@ fn running_row(
 fn next_row(
     alloc: Global,
     members: &[Member],
-    singles: &[Single],
-    version: TopVer,
+    claims: &Claims,
     part: usize,
     wanted: &[NodeId],
     row: Option<&Row>,
 ) -> Mem<Row>
-    ensures { IfOk result (λ next. next ≡ next_row members.now singles.now version part wanted.now (row_or_bare (option_copied row.entry))) }
+    requires { part < claims.now.parts }
+    ensures { IfOk result (λ next. next ≡ next_row members.now claims.now.singles.now claims.now.version part wanted.now (row_or_bare (option_copied row.entry))) }
 {
     match row {
         Some(row) if !wanted.is_empty() => {
-            running_row(alloc, members, singles, version, part, wanted, row)
+            running_row(alloc, members, claims, part, wanted, row)
         }
         _ => owned_by(alloc, wanted),
     }
@@ -91,6 +92,26 @@ fn next_row(
 fn next_rows(
     alloc: Global,
     members: &[Member],
+    claims: &Claims,
+    ideals: &[Row],
+    rows: &[Row],
+) -> Mem<List<Row>>
+    requires { length ideals.now ≤ claims.now.parts }
+    ensures { IfOk result (λ next. next ≡ next_rows members.now claims.now.singles.now claims.now.version 0 ideals.now rows.now) }
+{
+    let mut next = List::new(alloc);
+    for (part, ideal) in ideals.iter().enumerate() {
+        let wanted = ideal.owners.as_slice();
+        let row = rows.get(part);
+        next.push(next_row(alloc, members, claims, part, wanted, row)?)?;
+    }
+    Ok(next)
+}
+
+/// The rows that follow those of a base of this version.
+fn rows_from(
+    alloc: Global,
+    members: &[Member],
     singles: &[Single],
     version: TopVer,
     ideals: &[Row],
@@ -98,13 +119,8 @@ fn next_rows(
 ) -> Mem<List<Row>>
     ensures { IfOk result (λ next. next ≡ next_rows members.now singles.now version 0 ideals.now rows.now) }
 {
-    let mut next = List::new(alloc);
-    for (part, ideal) in ideals.iter().enumerate() {
-        let wanted = ideal.owners.as_slice();
-        let row = rows.get(part);
-        next.push(next_row(alloc, members, singles, version, part, wanted, row)?)?;
-    }
-    Ok(next)
+    let claims = Claims::new(alloc, singles, version, ideals.len())?;
+    next_rows(alloc, members, &claims, ideals, rows)
 }
 
 /// The rows that follow those of the base; without a base they are the ideal ones.
@@ -120,11 +136,11 @@ fn rows_after(
     match base {
         Some(map) => {
             let rows = map.rows.as_slice();
-            next_rows(alloc, members, singles, map.top, ideals, rows)
+            rows_from(alloc, members, singles, map.top, ideals, rows)
         }
         None => {
             let version = TopVer { major: 0, minor: 0 };
-            next_rows(alloc, members, singles, version, ideals, &[])
+            rows_from(alloc, members, singles, version, ideals, &[])
         }
     }
 }
