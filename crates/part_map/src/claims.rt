@@ -70,6 +70,7 @@ fn table_of(
     Ok(table)
 }
 
+/// Whether a partition is marked.
 fn is_set(marks: &[bool], part: usize) -> bool
     ensures { result ≡ slice_index_or marks.now part false }
 {

@@ -109,7 +109,7 @@ fn sessions_of(
 /// The scenario of a seed, with 1 to 64 sessions of 1 to 100 transactions each. It is good.
 ///
 /// Servers 1 to 4 and client 9 are there from the start, server 5 joins and server 2 is lost. Each transaction moves an
-/// amount from 1 to 100 from one of the keys `k0` to `k15` to another, so the values' sum stays 0.
+/// amount from 1 to 100 from one of the keys `k0` to `k15` to another; a session has 5 commands for each.
 pub fn make_scenario(alloc: Global, seed: u64, sessions: u32, txs: u32) -> Mem<Scenario>
     requires few_sessions { sessions ≤ 64 }
     requires few_txs { txs ≤ 100 }
