@@ -17,7 +17,7 @@ fn runs(running: &[u32], number: usize) -> bool
 }
 
 /// Each cache's number of partitions.
-fn parts_of(alloc: Global, caches: &[Cache]) -> Mem<List<u32>>
+pub(crate) fn parts_of(alloc: Global, caches: &[Cache]) -> Mem<List<u32>>
     ensures { IfOk result (λ parts. parts ≡ map (λ (c : Cache). c.parts) caches.now) }
 {
     let mut parts = List::new(alloc);
@@ -75,7 +75,7 @@ fn push_cache(
 }
 
 /// The rows of all of the caches.
-fn opening_rows(
+pub(crate) fn opening_rows(
     alloc: Global,
     servers: &[NodeId],
     caches: &[Cache],

@@ -1,0 +1,27 @@
+-- What a map says of a partition, by its number. A partition that the map lacks has no holders.
+use Rattle.std.specs.Prelude.{ℕ, Bool, true, false, List, [], ◌∷◌, slice_get, Option, Some, None}
+use Rattle.ignite_types.specs.declared.names.NodeId.{NodeId}
+use Rattle.ignite_types.specs.declared.placement.PartMap.{PartMap}
+use Rattle.ignite_types.specs.declared.placement.Row.{Row}
+
+abbrev pub owners_of : Option Row → List NodeId
+owners_of None = []
+owners_of (Some row) = row.owners
+
+abbrev pub movers_of : Option Row → List NodeId
+movers_of None = []
+movers_of (Some row) = row.movers
+
+abbrev pub owners_at : PartMap → ℕ → List NodeId
+owners_at map part = owners_of (slice_get map.rows part)
+
+abbrev pub movers_at : PartMap → ℕ → List NodeId
+movers_at map part = movers_of (slice_get map.rows part)
+
+abbrev pub has_some : List NodeId → Bool
+has_some [] = false
+has_some (node ∷ nodes) = true
+
+-- whether the partition has an owner
+abbrev pub runs : PartMap → ℕ → Bool
+runs map part = has_some (owners_at map part)

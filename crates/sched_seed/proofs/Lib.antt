@@ -1,0 +1,4 @@
+pub mod Below
+pub mod GoodLemmas
+pub mod PickLemmas
+pub mod ScriptLemmas

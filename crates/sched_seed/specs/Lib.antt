@@ -1,0 +1,4 @@
+pub mod Generated
+pub mod Picks
+pub mod Transactions
+pub mod Words
