@@ -1,4 +1,3 @@
 pub mod Claims
 pub mod Maps
-pub mod NextMap
 pub mod Shares

@@ -1,7 +1,7 @@
 //! Which nodes hold a complete copy of a partition.
 
 ghost use Rattle.std.specs.Prelude.{◌≡◌, ◌<◌, ◌++◌, filter, IfOk, OnOk};
-ghost use Rattle.part_map.specs.NextMap.{has_node, held, is_filled, is_member, missing};
+ghost use Rattle.base_words.specs.NextMap.{has_node, held, is_filled, is_member, missing};
 
 use crate::claims::Claims;
 use ignite_types::{List, Mem, Member, NodeId, Row};

@@ -2,7 +2,7 @@
 
 ghost use Rattle.std.specs.Prelude.{◌≡◌, None};
 ghost use Rattle.std.specs.Option.{option_copied};
-ghost use Rattle.part_map.specs.NextMap.{is_higher, newer, newest_from};
+ghost use Rattle.base_words.specs.NextMap.{is_higher, newer, newest_from};
 
 use ignite_types::{PartMap, Single, TopVer};
 

@@ -1,5 +1,5 @@
 use Rattle.std.proofs.Common.{◌≡◌, ◌++◌, drop}
-use Rattle.part_map.specs.NextMap.{missing}
+use Rattle.base_words.specs.NextMap.{missing}
 use Rattle.part_map.proofs.held.missing.Given as goal
 
 abbrev pub invariant-loop-node : goal.invariant-loop-node

@@ -1,6 +1,6 @@
 use Rattle.std.proofs.Common.{◌≡◌, drop, None}
 use Rattle.std.specs.Option.{option_copied}
-use Rattle.part_map.specs.NextMap.{newest_from}
+use Rattle.base_words.specs.NextMap.{newest_from}
 use Rattle.part_map.proofs.newest.newest.Given as goal
 
 abbrev pub invariant-loop-single : goal.invariant-loop-single
