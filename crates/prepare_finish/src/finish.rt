@@ -7,7 +7,8 @@ ghost use Rattle.act_rows.specs.Locks.{releases};
 ghost use Rattle.act_rows.specs.Steps.{on_share, outs_to, sent_all, share_of};
 ghost use Rattle.act_rows.specs.Stores.{applied_all};
 ghost use Rattle.ignite_types.specs.Names.{same_node};
-ghost use Rattle.ignite_types.specs.declared.placement.ShareState.TheVariants.{Committed};
+ghost use Rattle.ignite_types.specs.declared.placement.ShareState.TheVariants.{Committed, Prepared, Undoing};
+ghost use Rattle.ignite_types.specs.declared.message.Message.TheVariants as msg;
 
 use crate::locks::release_all;
 use crate::primary::{backups_for, stop_awaiting, without_me};
@@ -68,14 +69,21 @@ fn waits_at(alloc: Global, key: &Key, readers: &[NodeId]) -> Mem<List<NearWait>>
     Ok(waits)
 }
 
+/// This write's update is awaited from each reader of its key.
+fn write_waits(node: &Node, write: &Stored) -> Mem<List<NearWait>>
+    ensures { IfOk result (λ waits. waits ≡ map (λ n. record { key = write.now.key; node = n }) (readers_but_me node.now write.now.key)) }
+{
+    let readers = readers_but_me(node, &write.key)?;
+    waits_at(node.alloc, &write.key, readers.as_slice())
+}
+
 /// The updates of these writes are awaited from the readers of their keys.
 fn near_waits(node: &Node, writes: &[Stored]) -> Mem<List<NearWait>>
     ensures { IfOk result (λ waits. waits ≡ near_waits node.now writes.now) }
 {
     let mut waits = List::new(node.alloc);
     for write in writes {
-        let readers = readers_but_me(node, &write.key)?;
-        waits.append(waits_at(node.alloc, &write.key, readers.as_slice())?)?;
+        waits.append(write_waits(node, write)?)?;
     }
     Ok(waits)
 }
@@ -153,7 +161,8 @@ fn add_asker(node: &mut Node, tx: TxId, from: NodeId) -> Mem<()>
 pub fn on_finish(node: &mut Node, from: NodeId, tx: TxId, commit: bool) -> Mem<()>
     ensures { OnOk result (node.new ≡ finish_row node.old from tx commit) }
 {
-    let Some(share) = node.share(&tx) else {
+    let here = &*node;
+    let Some(share) = here.share(&tx) else {
         release_all(node, tx)?;
         return node.send(from, Message::Finished { tx });
     };
@@ -163,16 +172,16 @@ pub fn on_finish(node: &mut Node, from: NodeId, tx: TxId, commit: bool) -> Mem<(
     match (commit, share.state) {
         (true, ShareState::Prepared) => {
             let top = share.top;
-            let writes = List::from_slice(node.alloc, share.writes.as_slice())?;
-            let backups = backups_for(node, share.shares.as_slice())?;
+            let writes = List::from_slice(here.alloc, share.writes.as_slice())?;
+            let backups = backups_for(here, share.shares.as_slice())?;
             commit_share(node, from, tx, top, writes.as_slice(), backups)
         }
         (false, ShareState::Prepared) => {
-            let backups = backups_for(node, share.shares.as_slice())?;
+            let backups = backups_for(here, share.shares.as_slice())?;
             undo_share(node, from, tx, backups)
         }
         (false, ShareState::Preparing) => {
-            let backups = backups_for(node, share.shares.as_slice())?;
+            let backups = backups_for(here, share.shares.as_slice())?;
             undo_share(node, from, tx, backups)
         }
         _ => node.send(from, Message::Finished { tx }),
@@ -232,13 +241,19 @@ fn end_finish(node: &mut Node, tx: TxId) -> Mem<()>
     node.put_share(tx, share)
 }
 
+fn drop_share(node: &mut Node, tx: TxId)
+    ensures { node.new ≡ share_after node.old tx Undoing }
+{
+    let _dropped = node.state.shares.remove(&tx);
+}
+
 /// A finished share stays as Committed, or is dropped.
 fn leave_share(node: &mut Node, tx: TxId, state: ShareState) -> Mem<()>
     ensures { OnOk result (node.new ≡ share_after node.old tx state) }
 {
     match state {
         ShareState::Undoing => {
-            let _dropped = node.state.shares.remove(&tx);
+            drop_share(node, tx);
             Ok(())
         }
         _ => end_finish(node, tx),
@@ -337,7 +352,16 @@ fn waits_without(alloc: Global, waits: &[NearWait], node: NodeId) -> Mem<List<Ne
     Ok(others)
 }
 
-/// A share no longer awaits a node that has left.
+/// The share no longer awaits a node that has left.
+fn stop_waiting(alloc: Global, share: &mut OwnShare, left: NodeId) -> Mem<()>
+    ensures { OnOk result (share.new ≡ share_left left share.old) }
+{
+    let near = waits_without(alloc, share.near.as_slice(), left)?;
+    share.awaited.remove(&left);
+    share.near = Set::from_list(near);
+    Ok(())
+}
+
 #[tactic(auto, using(act_rows::proofs::TableLaws::tx_put_put))]
 fn share_saw_leave(node: &mut Node, left: NodeId, tx: TxId) -> Mem<()>
     ensures { OnOk result (node.new ≡ on_share node.old tx (share_left left) (share_of node.old tx)) }
@@ -345,8 +369,7 @@ fn share_saw_leave(node: &mut Node, left: NodeId, tx: TxId) -> Mem<()>
     let Some(mut share) = node.take_share(tx) else {
         return Ok(());
     };
-    share.awaited.remove(&left);
-    share.near = Set::from_list(waits_without(node.alloc, share.near.as_slice(), left)?);
+    stop_waiting(node.alloc, &mut share, left)?;
     node.put_share(tx, share)
 }
 

@@ -1,8 +1,11 @@
 //! Prepare at a primary.
 
-ghost use Rattle.std.specs.Prelude.{◌≡◌, OnOk, IfOk};
+ghost use Rattle.std.specs.Prelude.{◌≡◌, IfOk, OnOk, filter, not};
 ghost use Rattle.act_rows.specs.Primary.{backup_prepare_outs, backup_prepared_row, backups_for, begins_share, check, drawn, drawn_up_to, draws, first_changed, forgetting, is_old, prepare_row, wanted_keys, writes_held};
+ghost use Rattle.act_rows.specs.Steps.{on_share, share_of};
 ghost use Rattle.base_words.specs.Tables.{keys_where};
+ghost use Rattle.ignite_types.specs.Names.{node_cmp, same_node};
+ghost use Rattle.ordered_set.specs.Members.{without_member};
 
 use crate::locks::own_each;
 use ignite_types::{
@@ -133,6 +136,19 @@ fn draw(
         })?;
     }
     Ok((entries, order))
+}
+
+/// Those of these nodes that are not this one.
+pub(crate) fn without_me(node: &Node, nodes: &[NodeId]) -> Mem<List<NodeId>>
+    ensures { IfOk result (λ others. others ≡ filter (λ n. not (same_node n node.now.me)) nodes.now) }
+{
+    let mut others = List::new(node.alloc);
+    for other in nodes {
+        if *other != node.state.me {
+            others.push(*other)?;
+        }
+    }
+    Ok(others)
 }
 
 /// The live holders of this primary's shares but itself.
