@@ -1,12 +1,13 @@
 //! Finish at a primary, and what follows when no answer is awaited any more.
 
-ghost use Rattle.std.specs.Prelude.{◌≡◌, ◌++◌, IfOk, OnOk, false, filter, map, not, true};
+ghost use Rattle.std.specs.Prelude.{◌≡◌, ◌++◌, IfOk, OnOk, false, filter, not, true};
 ghost use Rattle.act_rows.specs.Decisions.{backup_finish_outs};
 ghost use Rattle.act_rows.specs.Primary.{adds_asker, backup_finished_by, begins_finish, ends_finish, finish_row, is_prepared, near_done_row, near_outs, near_waits, own_backup_finished, own_txs, primary_left, readers_but_me, share_after, share_left, share_on, shares_left, shares_on, undoes_share};
 ghost use Rattle.act_rows.specs.Locks.{releases};
 ghost use Rattle.act_rows.specs.Steps.{on_share, outs_to, sent_all, share_of};
 ghost use Rattle.act_rows.specs.Stores.{applied_all};
 ghost use Rattle.ignite_types.specs.Names.{same_node};
+ghost use Rattle.prepare_finish.specs.Waits.{waits_for};
 ghost use Rattle.ignite_types.specs.declared.placement.ShareState.TheVariants.{Committed, Prepared, Undoing};
 ghost use Rattle.ignite_types.specs.declared.message.Message.TheVariants as msg;
 
@@ -57,7 +58,7 @@ fn near_outs(node: &Node, tx: TxId, writes: &[Stored]) -> Mem<List<Out>>
 
 /// This key's update is awaited from each of these readers.
 fn waits_at(alloc: Global, key: &Key, readers: &[NodeId]) -> Mem<List<NearWait>>
-    ensures { IfOk result (λ waits. waits ≡ map (λ n. record { key = key.now; node = n }) readers.now) }
+    ensures { IfOk result (λ waits. waits ≡ waits_for key.now readers.now) }
 {
     let mut waits = List::new(alloc);
     for reader in readers {
@@ -71,7 +72,7 @@ fn waits_at(alloc: Global, key: &Key, readers: &[NodeId]) -> Mem<List<NearWait>>
 
 /// This write's update is awaited from each reader of its key.
 fn write_waits(node: &Node, write: &Stored) -> Mem<List<NearWait>>
-    ensures { IfOk result (λ waits. waits ≡ map (λ n. record { key = write.now.key; node = n }) (readers_but_me node.now write.now.key)) }
+    ensures { IfOk result (λ waits. waits ≡ waits_for write.now.key (readers_but_me node.now write.now.key)) }
 {
     let readers = readers_but_me(node, &write.key)?;
     waits_at(node.alloc, &write.key, readers.as_slice())
@@ -202,12 +203,7 @@ fn backup_finished(node: &mut Node, from: NodeId, tx: TxId) -> Mem<()>
 }
 
 /// BackupFinished, where this node is the share's primary.
-pub fn on_own_backup_finished(
-    node: &mut Node,
-    from: NodeId,
-    tx: TxId,
-    primary: NodeId,
-) -> Mem<()>
+pub fn on_own_backup_finished(node: &mut Node, from: NodeId, tx: TxId, primary: NodeId) -> Mem<()>
     ensures { OnOk result (node.new ≡ own_backup_finished node.old from tx primary) }
 {
     if primary == node.state.me {

@@ -13,7 +13,14 @@ fn grant(node: &mut Node, to: NodeId, tx: TxId, top: TopVer, key: &Key) -> Mem<(
 {
     let found = node.found_at(key);
     node.note(Rec::Grant { tx, top, key: *key })?;
-    node.send(to, Message::LockOk { tx, key: *key, found })
+    node.send(
+        to,
+        Message::LockOk {
+            tx,
+            key: *key,
+            found,
+        },
+    )
 }
 
 /// Lock: the first at the key owns it and is told so, any other waits.
@@ -79,7 +86,11 @@ pub(crate) fn own_each(node: &mut Node, tx: TxId, top: TopVer, wanted: &[Wanted]
 {
     for want in wanted {
         enqueue(node.alloc, &mut node.state.queues, tx, &want.key)?;
-        node.note(Rec::Grant { tx, top, key: want.key })?;
+        node.note(Rec::Grant {
+            tx,
+            top,
+            key: want.key,
+        })?;
     }
     Ok(())
 }

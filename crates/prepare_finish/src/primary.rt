@@ -111,11 +111,7 @@ pub fn check(node: &Node, tx: &TxId, wanted: &[Wanted]) -> Mem<Option<Fail>>
 }
 
 /// The written entries with the versions that are drawn for them, and the last number drawn.
-fn draw(
-    node: &Node,
-    top: TopVer,
-    writes: &[(Key, Option<Value>)],
-) -> Mem<(List<Stored>, u64)>
+fn draw(node: &Node, top: TopVer, writes: &[(Key, Option<Value>)]) -> Mem<(List<Stored>, u64)>
     ensures entries { IfOk result (λ r. r.0 ≡ drawn top node.now.me node.now.order writes.now) }
     ensures last { IfOk result (λ r. r.1 ≡ drawn_up_to node.now.order writes.now) }
 {

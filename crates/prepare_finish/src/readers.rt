@@ -25,12 +25,7 @@ fn take_readers(alloc: Global, readers: &mut Readers, key: &Key) -> Option<Set<N
 
 /// The node is a reader of the key.
 #[tactic(auto, using(act_rows::proofs::TableLaws::key_put_put))]
-pub(crate) fn add_reader(
-    alloc: Global,
-    readers: &mut Readers,
-    key: &Key,
-    node: NodeId,
-) -> Mem<()>
+pub(crate) fn add_reader(alloc: Global, readers: &mut Readers, key: &Key, node: NodeId) -> Mem<()>
     ensures { OnOk result (readers.new ≡ with_reader readers.old key.now node) }
 {
     match take_readers(alloc, readers, key) {
