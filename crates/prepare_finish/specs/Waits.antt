@@ -1,0 +1,9 @@
+-- What a commit awaits from the readers of one key.
+use Rattle.std.specs.Prelude.{map}
+use Rattle.ignite_types.specs.declared.list.List.{List}
+use Rattle.ignite_types.specs.declared.names.NodeId.{NodeId}
+use Rattle.ignite_types.specs.declared.text.Key.{Key}
+use Rattle.node_state.specs.declared.primary.NearWait.{NearWait}
+
+abbrev pub waits_for : Key → List NodeId → List NearWait
+waits_for key nodes = map (λ (n : NodeId). record { key = key; node = n }) nodes
