@@ -1,14 +1,14 @@
--- The directory: the one list of topology events, the members by age, the clock, the answers given, and how far the plan is.
+-- The directory: the one list of topology events, the members by age, the clock, how many answers were given, and how far
+-- the plan is.
 use Rattle.std.specs.List.{list_any}
 use Rattle.std.specs.Option.{option_map}
 use Rattle.std.specs.Ordering.{nat_cmp}
-use Rattle.std.specs.Prelude.{Bool, None, Option, Some, [], false, filter, if◌then◌else◌, length, nat_eq, nat_le, not, slice_get, ℕ, ◌++◌, ◌||◌, ◌∷◌}
+use Rattle.std.specs.Prelude.{Bool, None, Option, Some, [], false, filter, if◌then◌else◌, nat_le, not, slice_get, true, ℕ, ◌++◌, ◌∷◌}
 use Rattle.base_words.specs.NextMap.{is_member}
 use Rattle.base_words.specs.Orders.{raised}
 use Rattle.ignite_types.specs.Good.{members}
 use Rattle.ignite_types.specs.Names.{node_cmp, same_node}
 use Rattle.ignite_types.specs.Placement.{capped}
-use Rattle.ignite_types.specs.declared.answer.Answer.{Answer}
 use Rattle.ignite_types.specs.declared.journal.NoLoss.{NoLoss}
 use Rattle.ignite_types.specs.declared.journal.TopoEvent.{TopoEvent}
 use Rattle.ignite_types.specs.declared.list.List.{List}
@@ -31,8 +31,9 @@ pub record Directory : Type 0 where
   pub members : List Member
   -- the last version
   pub last : TopVer
-  pub now : ℕ
-  pub answers : List (ℕ × Answer)
+  pub clock : ℕ
+  -- how many answers were given
+  pub answered : ℕ
   pub plan : List PlanStep
   -- how many plan steps were done or refused
   pub done : ℕ
@@ -89,8 +90,8 @@ opening_directory scenario = record {
   ever = node_set [] scenario.nodes;
   members = scenario.nodes;
   last = first_top;
-  now = 0;
-  answers = [];
+  clock = 0;
+  answered = 0;
   plan = scenario.plan;
   done = 0;
 }
@@ -108,23 +109,35 @@ joined d member = record (appended d (topo.Join member)) { ever = with_member no
 
 -- Which losses are refused.
 
-abbrev pub survives : List Member → Row → Bool
-survives members row = nat_eq (length row.owners) 0 || list_any (λ (owner : NodeId). is_member members owner) row.owners
+-- the node is a member, and not the one that is lost
+abbrev pub remains : List Member → NodeId → NodeId → Bool
+remains members lost node = if same_node node lost then false else is_member members node
+
+abbrev pub one_remains : List Member → NodeId → List NodeId → Bool
+one_remains members lost owners = list_any (λ (node : NodeId). remains members lost node) owners
+
+-- of no owners none has to remain
+abbrev pub any_remains : List Member → NodeId → List NodeId → Bool
+any_remains members lost [] = true
+any_remains members lost (owner ∷ owners) = one_remains members lost (owner ∷ owners)
+
+-- a partition that runs keeps a living owner
+abbrev pub survives : List Member → NodeId → Row → Bool
+survives members lost row = any_remains members lost row.owners
 
 -- the first of these partitions, counted from this number on, that runs and would be without a living owner
-abbrev pub first_bare : List Member → ℕ → List Row → Option ℕ
-first_bare members part [] = None
-first_bare members part (row ∷ rows) = if survives members row then first_bare members (capped part 1) rows else Some part
+abbrev pub first_bare : List Member → NodeId → ℕ → List Row → Option ℕ
+first_bare members lost part [] = None
+first_bare members lost part (row ∷ rows) =
+    if survives members lost row then first_bare members lost (capped part 1) rows else Some part
 
-abbrev pub leaves_partition : List Member → Option PartMap → Option NoLoss
-leaves_partition members None = Some (refusal.LeavesPartition 0)
-leaves_partition members (Some best) = option_map refusal.LeavesPartition (first_bare members 0 best.rows)
+abbrev pub leaves_partition : List Member → NodeId → Option PartMap → Option NoLoss
+leaves_partition members lost None = Some (refusal.LeavesPartition 0)
+leaves_partition members lost (Some best) = option_map refusal.LeavesPartition (first_bare members lost 0 best.rows)
 
 -- why the loss of a node is refused, `best` being the highest map installed at a survivor
 abbrev pub loss_refused : Directory → NodeId → Option PartMap → Option NoLoss
-loss_refused d node best = if is_member d.members node
-    then leaves_partition (without_node node d.members) best
-    else Some refusal.NotIn
+loss_refused d node best = if is_member d.members node then leaves_partition d.members node best else Some refusal.NotIn
 
 -- The plan and the clock.
 
@@ -136,16 +149,16 @@ step_done d = record d { done = raised d.done }
 
 abbrev pub is_due : Directory → Option PlanStep → Bool
 is_due d None = false
-is_due d (Some step) = nat_le step.moment d.now
+is_due d (Some step) = nat_le step.moment d.clock
 
 abbrev pub step_due : Directory → Bool
 step_due d = is_due d (next_step d)
 
 abbrev pub ticked : Directory → ℕ → Directory
-ticked d to = record d { now = to }
+ticked d to = record d { clock = to }
 
-abbrev pub gave_answer : Directory → ℕ → Answer → Directory
-gave_answer d session a = record d { answers = d.answers ++ (session, a) ∷ [] }
+abbrev pub gave_answer : Directory → Directory
+gave_answer d = record d { answered = raised d.answered }
 
 abbrev pub event_at : Directory → ℕ → Option TopoEvent
 event_at d place = slice_get d.events place

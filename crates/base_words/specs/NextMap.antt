@@ -1,9 +1,12 @@
 -- The next map: what an exchange makes of the maps and the claims that the nodes' singles carry. Every look-up that finds
 -- nothing counts as nothing: a node without a single claims nothing, and a partition that the base lacks has no holders there.
-use Rattle.std.specs.Prelude.{ℕ, ◌+◌, ◌==◌, nat_lt, Bool, false, not, ◌&&◌, ◌||◌, List, [], ◌∷◌, ◌++◌, map, filter, find, drop, Option, Some, None, unwrap_or, if◌then◌else◌}
-use Rattle.std.specs.List.{list_any}
-use Rattle.ignite_types.specs.Affinity.{opening_rows}
+use Rattle.std.specs.List.{find, list_any}
+use Rattle.std.specs.Prelude.{Bool, None, Option, Some, [], drop, false, filter, if◌then◌else◌, map, nat_lt, not, unwrap_or, ℕ, ◌&&◌, ◌++◌, ◌+◌, ◌==◌, ◌||◌, ◌∷◌}
+use Rattle.ignite_types.specs.Affinity.{ideal, opening_rows}
+use Rattle.ignite_types.specs.Good.{members}
 use Rattle.ignite_types.specs.Names.{same_node, same_top}
+use Rattle.ignite_types.specs.Placement.{holders}
+use Rattle.ignite_types.specs.declared.list.List.{List}
 use Rattle.ignite_types.specs.declared.message.Single.{Single}
 use Rattle.ignite_types.specs.declared.names.NodeId.{NodeId}
 use Rattle.ignite_types.specs.declared.names.TopVer.{TopVer}

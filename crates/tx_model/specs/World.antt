@@ -112,7 +112,7 @@ with_inbox w id inbox = record w { inboxes = set_at w.inboxes (place_of w id) in
 
 abbrev pub answers : World → ℕ → Option NodeState → Option Answer → Outcome
 answers w session (Some node) (Some a) =
-    acted (with_directory w (gave_answer w.directory session a)) node.me (answer_act node session)
+    acted (with_directory w (gave_answer w.directory)) node.me (answer_act node session)
 answers w session _ _ = idle w
 
 abbrev pub answers_at : World → ℕ → Option NodeState → Outcome
@@ -167,7 +167,7 @@ abbrev pub planned : World → Directory → Option NoLoss → List Rec → Outc
 planned w d refused recs = record { world = with_directory w (step_done d); recs = note.Planned d.done refused ∷ recs }
 
 abbrev pub joins_part : World → Member → Directory → NodeState → Outcome
-joins_part w member d node = let act = join_act node d.events d.now (topo.Join member) in
+joins_part w member d node = let act = join_act node d.events d.clock (topo.Join member) in
     planned (with_part w member.node act.state life.Alive) (joined d member) None act.recs
 
 abbrev pub joins : World → Member → Directory → Option Part → Outcome
@@ -223,7 +223,7 @@ plan_moment d = option_map (λ (s : PlanStep). s.moment) (next_step d)
 
 -- the least deadline, sleep end or plan moment after the clock
 abbrev pub least_moment : World → Option ℕ
-least_moment w = soonest w.directory.now (sooner w.directory.now None (plan_moment w.directory))
+least_moment w = soonest w.directory.clock (sooner w.directory.clock None (plan_moment w.directory))
     (map (λ (p : Part). next_moment p.node) (filter alive_part w.parts))
 
 abbrev pub part_at_moment : ℕ → Part → Part

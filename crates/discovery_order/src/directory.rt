@@ -1,0 +1,210 @@
+//! The directory.
+
+ghost use Rattle.std.specs.Prelude.{◌≡◌, [], OnOk, IfOk};
+ghost use Rattle.std.specs.Option.{option_copied};
+ghost use Rattle.base_words.specs.Directory.{appended, event_at, first_top, gave_answer, is_due, joined, members_after, next_major, next_minor, next_step, node_set, opening_directory, without_node, step_done, step_due, ticked, version_after};
+
+use ignite_types::{List, Mem, Member, NodeId, PlanStep, Scenario, TopVer, TopoEvent};
+use ordered_set::Set;
+use std::alloc::Global;
+use std::marker::Model;
+
+/// The directory of the cluster. Every node reads its topology events at its own pace.
+#[derive(Debug, Drop)]
+pub struct Directory {
+    events: List<TopoEvent>,
+    ever: Set<NodeId>,
+    members: List<Member>,
+    last: TopVer,
+    clock: u64,
+    /// How many answers were given.
+    answered: u64,
+    plan: List<PlanStep>,
+    done: u64,
+}
+
+impl Model for Directory {
+    ghost use Rattle.base_words.specs.Directory.{Directory as DirectoryValue};
+
+    ghost Value = { DirectoryValue };
+
+    ghost view = { λ d. record { events = d.events; ever = d.ever; members = d.members; last = d.last; clock = d.clock; answered = d.answered; plan = d.plan; done = d.done } };
+}
+
+/// The first topology version, 1.0.
+pub fn first_top() -> TopVer
+    ensures { result ≡ first_top }
+{
+    TopVer { major: 1, minor: 0 }
+}
+
+/// The version of an event: a join or a loss raises the major number, any other event the minor one.
+pub fn version_after(top: TopVer, event: &TopoEvent) -> TopVer
+    ensures { result ≡ version_after top event.now }
+{
+    match event {
+        TopoEvent::Join(_) | TopoEvent::Left(_) => TopVer {
+            major: top.major.saturating_add(1),
+            minor: 0,
+        },
+        _ => TopVer {
+            major: top.major,
+            minor: top.minor.saturating_add(1),
+        },
+    }
+}
+
+/// The members without a node.
+fn without_node(alloc: Global, node: NodeId, members: &[Member]) -> Mem<List<Member>>
+    ensures { IfOk result (λ others. others ≡ without_node node members.now) }
+{
+    let mut others = List::new(alloc);
+    for member in members {
+        if member.node != node {
+            others.push(*member)?;
+        }
+    }
+    Ok(others)
+}
+
+/// The members after an event, by age.
+pub fn members_after(alloc: Global, members: &[Member], event: &TopoEvent) -> Mem<List<Member>>
+    ensures { IfOk result (λ after. after ≡ members_after members.now event.now) }
+{
+    match event {
+        TopoEvent::Join(member) => {
+            let mut after = List::from_slice(alloc, members)?;
+            after.push(*member)?;
+            Ok(after)
+        }
+        TopoEvent::Left(node) => without_node(alloc, *node, members),
+        _ => List::from_slice(alloc, members),
+    }
+}
+
+fn node_set(alloc: Global, members: &[Member]) -> Mem<Set<NodeId>>
+    ensures { IfOk result (λ nodes. nodes ≡ node_set [] members.now) }
+{
+    let mut nodes = Set::new(alloc);
+    for member in members {
+        nodes.insert(member.node)?;
+    }
+    Ok(nodes)
+}
+
+impl Directory {
+    /// The directory of a scenario before the first event.
+    pub fn new(alloc: Global, scenario: &Scenario) -> Mem<Directory>
+        ensures { IfOk result (λ directory. directory ≡ opening_directory scenario.now) }
+    {
+        Ok(Directory {
+            events: List::new(alloc),
+            ever: node_set(alloc, scenario.nodes.as_slice())?,
+            members: List::from_slice(alloc, scenario.nodes.as_slice())?,
+            last: first_top(),
+            clock: 0,
+            answered: 0,
+            plan: List::from_slice(alloc, scenario.plan.as_slice())?,
+            done: 0,
+        })
+    }
+
+    /// Appends a topology event.
+    pub fn append(&mut self, alloc: Global, event: &TopoEvent) -> Mem<()>
+        ensures { OnOk result (self.new ≡ appended self.old event.now) }
+    {
+        let members = members_after(alloc, self.members.as_slice(), event)?;
+        self.events.push(*event)?;
+        self.members = members;
+        self.last = version_after(self.last, event);
+        Ok(())
+    }
+
+    /// Appends the join of a member.
+    pub fn append_join(&mut self, alloc: Global, member: Member) -> Mem<()>
+        ensures { OnOk result (self.new ≡ joined self.old member) }
+    {
+        self.append(alloc, &TopoEvent::Join(member))?;
+        self.ever.insert(member.node)
+    }
+
+    /// The clock.
+    pub fn clock(&self) -> u64
+        ensures { result ≡ self.now.clock }
+    {
+        self.clock
+    }
+
+    /// The last version.
+    pub fn last(&self) -> TopVer
+        ensures { result ≡ self.now.last }
+    {
+        self.last
+    }
+
+    /// The members, by age.
+    pub fn members(&self) -> &[Member]
+        ensures { result.now ≡ self.now.members }
+    {
+        self.members.as_slice()
+    }
+
+    /// All topology events.
+    pub fn events(&self) -> &[TopoEvent]
+        ensures { result.now ≡ self.now.events }
+    {
+        self.events.as_slice()
+    }
+
+    /// How many plan steps were done or refused.
+    pub fn done(&self) -> u64
+        ensures { result ≡ self.now.done }
+    {
+        self.done
+    }
+
+    /// The topology event at a place, counted from 0.
+    pub fn event(&self, place: u64) -> Option<&TopoEvent>
+        ensures { option_copied result ≡ event_at self.now place }
+    {
+        self.events.get(place as usize)
+    }
+
+    /// The next plan step.
+    pub fn next_step(&self) -> Option<&PlanStep>
+        ensures { option_copied result ≡ next_step self.now }
+    {
+        self.plan.get(self.done as usize)
+    }
+
+    /// Whether the next plan step's moment is reached.
+    pub fn step_due(&self) -> bool
+        ensures { result ≡ step_due self.now }
+    {
+        match self.next_step() {
+            Some(step) => step.moment <= self.clock,
+            None => false,
+        }
+    }
+
+    /// The next plan step was done or refused.
+    pub fn pass_step(&mut self)
+        ensures { self.new ≡ step_done self.old }
+    {
+        self.done = self.done.saturating_add(1);
+    }
+
+    /// The clock goes to this moment.
+    pub fn tick(&mut self, to: u64)
+        ensures { self.new ≡ ticked self.old to }
+    {
+        self.clock = to;
+    }
+
+    /// One more answer was given.
+    pub fn count_answer(&mut self)
+        ensures { self.new ≡ gave_answer self.old }
+    {
+        self.answered = self.answered.saturating_add(1);
+    }
+}
