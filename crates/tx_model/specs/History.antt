@@ -2,8 +2,7 @@
 -- serial history of a plain map.
 use Rattle.std.specs.Cmp.Lexicographic.{pointwise}
 use Rattle.std.specs.List.{flat_map}
-use Rattle.std.specs.Option.{option_map}
-use Rattle.std.specs.Prelude.{Bool, Err, None, Ok, Option, Result, Some, [], false, fold, if◌then◌else◌, is_some, nat_eq, not, true, unwrap_or, ℕ, ℤ, ◌&&◌, ◌+◌, ◌==◌, ◌||◌, ◌∷◌}
+use Rattle.std.specs.Prelude.{Bool, Err, None, Ok, Option, Result, Some, [], false, if◌then◌else◌, is_some, nat_eq, not, true, unwrap_or, ℕ, ℤ, ◌&&◌, ◌+◌, ◌==◌, ◌||◌, ◌∷◌}
 use Rattle.act_rows.specs.Accesses.{access_key}
 use Rattle.act_rows.specs.Commands.{later}
 use Rattle.act_rows.specs.Steps.{no_top}
@@ -106,12 +105,12 @@ abbrev pub value_found : Found → Option (List ℕ)
 value_found None = None
 value_found (Some (value, ver)) = Some value
 
+abbrev pub first_found : Walk → Key → Found → Walk
+first_found w key found = record w { finds = put key_cmp w.finds key found; reads = put key_cmp w.reads key (value_found found) }
+
 -- a first read of a key, before any write of it
 abbrev pub first_read : Walk → Key → Option (Option (List ℕ)) → Option (Option (List ℕ)) → Walk
-first_read w key None None = record w {
-  finds = put key_cmp w.finds key (find_of w key);
-  reads = put key_cmp w.reads key (value_found (find_of w key));
-}
+first_read w key None None = first_found w key (find_of w key)
 first_read w key _ _ = w
 
 abbrev pub reads_key : Walk → Key → Walk
@@ -187,9 +186,13 @@ abbrev pub near_got : TxId → Walk → Option NodeId → TxId → Key → Found
 near_got tx w to u key None = w
 near_got tx w to u key (Some found) = if is_node tx.node to && not (is_over w u) then told_near w key (Some found) else w
 
+abbrev pub newly_found : Option (List ℕ) → CacheVersion → Found
+newly_found None ver = None
+newly_found (Some value) ver = Some (value, ver)
+
 abbrev pub near_told : TxId → Walk → Option NodeId → Key → Option (List ℕ) → CacheVersion → Walk
 near_told tx w to key new ver = if is_node tx.node to
-    then told_near w key (option_map (λ (value : List ℕ). (value, ver)) new)
+    then told_near w key (newly_found new ver)
     else w
 
 abbrev pub delivered : TxId → Walk → Option NodeId → Message → Walk
@@ -204,14 +207,17 @@ is_called tx session = session == tx.session
 abbrev pub with_over : Walk → TxId → Walk
 with_over w u = record w { overs = with_member tx_cmp w.overs u }
 
+abbrev pub decided_for : TxId → Walk → TxId → Bool → Walk
+decided_for tx w u commit =
+    if same_tx u tx then with_over (record w { committed = w.committed || commit }) u else with_over w u
+
 -- one record of the walk for this transaction; `to` is the node that takes a message in this group
 abbrev pub walked : TxId → Option NodeId → Walk → Rec → Walk
 walked tx to w (note.Call session c) = if is_called tx session then glances_if_started (called w c) w.top else w
 walked tx to w (note.Answer session a) = if is_called tx session then answered tx w w.called a else w
 walked tx to w (note.Deliver from m) = delivered tx w to m
 walked tx to w (note.Start u top) = if same_tx u tx then glances (record w { top = Some top }) w.called else w
-walked tx to w (note.Decide u commit) =
-    if same_tx u tx then with_over (record w { committed = w.committed || commit }) u else with_over w u
+walked tx to w (note.Decide u commit) = decided_for tx w u commit
 walked tx to w (note.Fault u why) = with_over w u
 walked tx to w _ = w
 
@@ -219,11 +225,13 @@ abbrev pub taker_of : Event → Option NodeId
 taker_of (event.Act id from) = Some id
 taker_of _ = None
 
-abbrev pub walk_group : TxId → Walk → Group → Walk
-walk_group tx w g = fold (walked tx (taker_of g.event)) w g.recs
+abbrev pub walk_recs : TxId → Option NodeId → Walk → List Rec → Walk
+walk_recs tx to w [] = w
+walk_recs tx to w (r ∷ rs) = walk_recs tx to (walked tx to w r) rs
 
 abbrev pub walk : TxId → Walk → List Group → Walk
-walk tx w groups = fold (walk_group tx) w groups
+walk tx w [] = w
+walk tx w (g ∷ gs) = walk tx (walk_recs tx (taker_of g.event) w g.recs) gs
 
 -- where the transaction is committed its unanswered call counts too
 abbrev pub with_called : TxId → Walk → Option Command → Walk

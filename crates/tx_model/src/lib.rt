@@ -2,7 +2,8 @@
 #![tactic(auto)]
 
 mod history;
+mod stub;
 mod walk;
 
-pub use history::{BadRead, CommitEntry};
+pub use history::{BadRead, CommitEntry, commits, footprint, serial};
 pub use walk::Walk;
