@@ -1,7 +1,7 @@
 -- What becomes of the transactions of a lost starter: each node lists what it holds of them, and the oldest member decides.
 use Rattle.std.specs.List.{flat_map, list_all, list_any}
 use Rattle.std.specs.Ordering.{ordering_then}
-use Rattle.std.specs.Prelude.{Bool, None, Option, Some, [], false, filter, fold, if◌then◌else◌, length, map, nat_eq, nat_le, not, true, ℕ, ◌&&◌, ◌++◌, ◌||◌, ◌∷◌}
+use Rattle.std.specs.Prelude.{Bool, None, Option, Some, [], false, filter, if◌then◌else◌, length, map, nat_eq, nat_le, not, true, ℕ, ◌&&◌, ◌++◌, ◌||◌, ◌∷◌}
 use Rattle.std.specs.declared.cmp.Ordering.{Ordering}
 use Rattle.act_rows.specs.Decisions.{finishes_for_lost, orphaned}
 use Rattle.act_rows.specs.Steps.{is_live, live_among, lost_among, noting, oldest_seen, outs_to, sent_all, sent_to_oldest, share_of}
@@ -15,6 +15,7 @@ use Rattle.ignite_types.specs.Good.{members}
 use Rattle.ignite_types.specs.Names.{node_cmp, same_node, same_tx, share_cmp, tx_cmp}
 use Rattle.ignite_types.specs.declared.list.List.{List}
 use Rattle.ignite_types.specs.declared.message.Orphan.{Orphan}
+use Rattle.ignite_types.specs.declared.message.Out.{Out}
 use Rattle.ignite_types.specs.declared.names.NodeId.{NodeId}
 use Rattle.ignite_types.specs.declared.names.TxId.{TxId}
 use Rattle.ignite_types.specs.declared.placement.Share.{Share}
@@ -35,20 +36,32 @@ use Rattle.ignite_types.specs.declared.journal.Rec.TheVariants as note
 
 -- What a node holds.
 
+abbrev pub backup_txs : List (BackupName × BackupShare) → List TxId
+backup_txs backups = map (λ (e : BackupName × BackupShare). e.0.tx) backups
+
 -- the transactions of which a lock, a waiting place or a share is here, ascending
 abbrev pub held_txs : NodeState → List TxId
 held_txs s = with_members
     (with_members (standing_in s.queues) (keys_in s.shares))
-    (map (λ (e : BackupName × BackupShare). e.0.tx) s.backups)
+    (backup_txs s.backups)
+
+abbrev pub lost_starters : NodeState → List TxId → List TxId
+lost_starters s txs = filter (λ (tx : TxId). not (is_live s tx.node)) txs
 
 abbrev pub orphan_txs : NodeState → List TxId
-orphan_txs s = filter (λ (tx : TxId). not (is_live s tx.node)) (held_txs s)
+orphan_txs s = lost_starters s (held_txs s)
 
-abbrev pub backups_of : NodeState → TxId → List (BackupName × BackupShare)
-backups_of s tx = filter (λ (e : BackupName × BackupShare). same_tx e.0.tx tx) s.backups
+abbrev pub with_backup_held : NodeId → TxId → List (Share × ShareState) → BackupName × BackupShare → List (Share × ShareState)
+with_backup_held me tx held e =
+    if same_tx e.0.tx tx then put share_cmp held (record { holder = me; primary = e.0.primary }) e.1.state else held
 
-abbrev pub held_backup : NodeId → BackupName × BackupShare → Share × ShareState
-held_backup me e = (record { holder = me; primary = e.0.primary }, e.1.state)
+-- the shares of a transaction that are held for other primaries, with their states
+abbrev pub held_from : NodeId → TxId → List (Share × ShareState) → List (BackupName × BackupShare) → List (Share × ShareState)
+held_from me tx held [] = held
+held_from me tx held (e ∷ es) = held_from me tx (with_backup_held me tx held e) es
+
+abbrev pub held_backups : NodeId → List (BackupName × BackupShare) → TxId → List (Share × ShareState)
+held_backups me backups tx = held_from me tx [] backups
 
 abbrev pub with_own : NodeId → List (Share × ShareState) → Option OwnShare → List (Share × ShareState)
 with_own me held None = held
@@ -56,34 +69,39 @@ with_own me held (Some h) = put share_cmp held (record { holder = me; primary = 
 
 -- the node's shares of a transaction with their states, ascending
 abbrev pub held_of : NodeState → TxId → List (Share × ShareState)
-held_of s tx = with_own s.me (map (held_backup s.me) (backups_of s tx)) (share_of s tx)
+held_of s tx = with_own s.me (held_backups s.me s.backups tx) (share_of s tx)
 
-abbrev pub first_shares : List (BackupName × BackupShare) → List Share
-first_shares [] = []
-first_shares (e ∷ es) = e.1.shares
+-- all shares of a transaction, as the first share that is held for another primary names them
+abbrev pub backup_shares : List (BackupName × BackupShare) → TxId → List Share
+backup_shares [] tx = []
+backup_shares (e ∷ es) tx = if same_tx e.0.tx tx then e.1.shares else backup_shares es tx
 
 -- all shares of a transaction, as a share here names them
 abbrev pub shares_known : NodeState → TxId → Option OwnShare → List Share
 shares_known s tx (Some h) = h.shares
-shares_known s tx None = first_shares (backups_of s tx)
+shares_known s tx None = backup_shares s.backups tx
 
-abbrev pub orphan_of : NodeState → TxId → Orphan
-orphan_of s tx = record {
+-- what is here of one transaction, where these stand in queues
+abbrev pub orphan_of : NodeState → List TxId → TxId → Orphan
+orphan_of s standing tx = record {
   tx = tx;
   shares = shares_known s tx (share_of s tx);
   held = held_of s tx;
-  locks = has tx_cmp (standing_in s.queues) tx;
+  locks = has tx_cmp standing tx;
 }
 
+abbrev pub orphans_among : NodeState → List TxId → List TxId → List Orphan
+orphans_among s standing txs = map (orphan_of s standing) txs
+
 abbrev pub orphans_of : NodeState → List Orphan
-orphans_of s = map (orphan_of s) (orphan_txs s)
+orphans_of s = orphans_among s (standing_in s.queues) (orphan_txs s)
 
 -- A loss begins a new round.
 
 abbrev pub new_round : ℕ → List Member → Round
 new_round place members = record { place = place; members = members; acted = false; finishes = []; backups = [] }
 
--- the round before is over, and its lists are of no more use; this node's list goes to the oldest member
+-- the round before is over; this node's list goes to the oldest member
 abbrev pub begins_round : NodeState → ℕ → NodeState
 begins_round s place = let here = record s {
   round = Some (new_round place s.members);
@@ -92,35 +110,53 @@ begins_round s place = let here = record s {
 
 -- The verdicts.
 
-abbrev pub reports_for : NodeState → ℕ → List Report
-reports_for s place = filter (λ (r : Report). nat_eq r.round place) s.reports
+abbrev pub reports_for : List Report → ℕ → List Report
+reports_for reports place = filter (λ (r : Report). nat_eq r.round place) reports
+
+abbrev pub has_report : List Report → NodeId → Bool
+has_report reports node = list_any (λ (r : Report). same_node r.from node) reports
 
 abbrev pub all_reported : List Member → List Report → Bool
-all_reported members reports = list_all (λ (m : Member). list_any (λ (r : Report). same_node r.from m.node) reports) members
+all_reported members reports = list_all (λ (m : Member). has_report reports m.node) members
+
+abbrev pub orphan_names : List Orphan → List TxId
+orphan_names list = map (λ (o : Orphan). o.tx) list
+
+abbrev pub names_from : List TxId → List Report → List TxId
+names_from set [] = set
+names_from set (r ∷ rs) = names_from (with_members set (orphan_names r.list)) rs
 
 abbrev pub names_of : List Report → List TxId
-names_of reports = fold (λ (set : List TxId) (r : Report). with_members set (map (λ (o : Orphan). o.tx) r.list)) [] reports
+names_of reports = names_from [] reports
+
+abbrev pub orphans_of_tx : TxId → List Orphan → List Orphan
+orphans_of_tx tx list = filter (λ (o : Orphan). same_tx o.tx tx) list
 
 -- what one list says of a transaction
 abbrev pub orphans_in : TxId → Report → List Orphan
-orphans_in tx r = filter (λ (o : Orphan). same_tx o.tx tx) r.list
+orphans_in tx r = orphans_of_tx tx r.list
 
 abbrev pub orphans_for : TxId → List Report → List Orphan
 orphans_for tx reports = flat_map (orphans_in tx) reports
 
 -- whether a list has a lock or a waiting place of the transaction
 abbrev pub has_locks : TxId → Report → Bool
-has_locks tx r = list_any (λ (o : Orphan). o.locks) (orphans_in tx r)
+has_locks tx r = list_any (λ (o : Orphan). same_tx o.tx tx && o.locks) r.list
 
 abbrev pub lockers : TxId → List Report → List NodeId
-lockers tx reports = map (λ (r : Report). r.from) (filter (has_locks tx) reports)
+lockers tx [] = []
+lockers tx (r ∷ rs) = if has_locks tx r then r.from ∷ lockers tx rs else lockers tx rs
 
 abbrev pub with_nodes : List NodeId → List NodeId → List NodeId
 with_nodes set [] = set
 with_nodes set (node ∷ nodes) = with_nodes (with_member node_cmp set node) nodes
 
+abbrev pub primaries_among : List NodeId → List Share → List NodeId
+primaries_among set [] = set
+primaries_among set (h ∷ hs) = primaries_among (with_member node_cmp set h.primary) hs
+
 abbrev pub primaries_of : List Share → List NodeId
-primaries_of shares = with_nodes [] (map (λ (h : Share). h.primary) shares)
+primaries_of shares = primaries_among [] shares
 
 -- each live primary, and each node that has a lock or a waiting place
 abbrev pub finish_nodes : NodeState → List Share → List NodeId → List NodeId
@@ -151,6 +187,11 @@ awaits_verdict s tx nodes backups = on_round s (λ (r : Round). record r {
   backups = awaits_backups r.backups tx backups;
 }) s.round
 
+-- Finish, then BackupFinish for lost primaries
+abbrev pub verdict_outs : NodeState → TxId → Bool → List Share → List NodeId → List Out
+verdict_outs s tx commit shares nodes =
+    outs_to nodes (msg.Finish tx commit) ++ finishes_for_lost s tx commit shares (lost_among s (primaries_of shares))
+
 -- the verdict is kept and noted, and all that hold something of the transaction are told
 abbrev pub gives_verdict : NodeState → TxId → Bool → List Share → List NodeId → NodeState
 gives_verdict s tx commit shares nodes = sent_all
@@ -170,9 +211,14 @@ judges_each s members reports [] = s
 judges_each s members reports (tx ∷ txs) =
     judges_each (judges s tx members (orphans_for tx reports) (lockers tx reports)) members reports txs
 
-abbrev pub acts_on_round : NodeState → Round → List Report → NodeState
-acts_on_round s r reports =
-    judges_each (record s { round = Some (record r { acted = true }) }) r.members reports (names_of reports)
+abbrev pub has_acted : NodeState → NodeState
+has_acted s = on_round s (λ (r : Round). record r { acted = true }) s.round
+
+abbrev pub acts_on_round : NodeState → List Member → List Report → NodeState
+acts_on_round s members reports = judges_each (has_acted s) members reports (names_of reports)
+
+abbrev pub recovers_with : NodeState → Round → List Report → NodeState
+recovers_with s r reports = if all_reported r.members reports then acts_on_round s r.members reports else s
 
 -- the recoverer acts once it has the lists of all members
 abbrev pub is_recoverer : NodeState → Round → Bool
@@ -180,8 +226,10 @@ is_recoverer s r = is_node s.me (oldest_member r.members)
 
 abbrev pub recovers_if_all : NodeState → Option Round → NodeState
 recovers_if_all s None = s
-recovers_if_all s (Some r) = let reports = reports_for s r.place in
-    if is_recoverer s r && not r.acted && all_reported r.members reports then acts_on_round s r reports else s
+recovers_if_all s (Some r) = if is_recoverer s r && not r.acted then recovers_with s r (reports_for s.reports r.place) else s
+
+abbrev pub reports_more : NodeState → Report → NodeState
+reports_more s r = record s { reports = s.reports ++ r ∷ [] }
 
 -- Orphans: kept under its round
 abbrev pub orphans_row : NodeState → NodeId → ℕ → List Orphan → NodeState

@@ -16,9 +16,15 @@ use Rattle.ignite_types.specs.declared.scenario.Member.{Member}
 abbrev pub reported : List Orphan → List (Share × ShareState)
 reported orphans = flat_map (λ (o : Orphan). o.held) orphans
 
-abbrev pub is_committed : Share × ShareState → Bool
-is_committed (share, Committed) = true
+abbrev pub is_committed : ShareState → Bool
+is_committed Committed = true
 is_committed _ = false
+
+abbrev pub is_committed_in : List (Share × ShareState) → Bool
+is_committed_in held = list_any (λ (h : Share × ShareState). is_committed h.1) held
+
+abbrev pub all_committed : List (Share × ShareState) → Bool
+all_committed held = list_all (λ (h : Share × ShareState). is_committed h.1) held
 
 abbrev pub is_ready : ShareState → Bool
 is_ready Prepared = true
@@ -36,15 +42,22 @@ shares_named (o ∷ os) = if nat_eq (length o.shares) 0 then shares_named os els
 
 -- some share is reported, and every reported one is Committed: nothing is left to do
 abbrev pub is_settled : List Orphan → Bool
-is_settled orphans = not (nat_eq (length (reported orphans)) 0) && list_all is_committed (reported orphans)
+is_settled orphans = not (nat_eq (length (reported orphans)) 0) && all_committed (reported orphans)
+
+-- the holder of a share is no member, or the share is reported Prepared or Committed
+abbrev pub is_member_ready : List (Share × ShareState) → List Member → Share → Bool
+is_member_ready held members share = not (is_member members share.holder) || is_ready_in held share
+
+abbrev pub members_ready : List (Share × ShareState) → List Member → List Share → Bool
+members_ready held members shares = list_all (is_member_ready held members) shares
 
 -- shares are named, and each whose holder is a member is reported Prepared or Committed
 abbrev pub all_ready : List Orphan → List Member → Bool
 all_ready orphans members = not (nat_eq (length (shares_named orphans)) 0)
-    && list_all (λ (share : Share). not (is_member members share.holder) || is_ready_in (reported orphans) share) (shares_named orphans)
+    && members_ready (reported orphans) members (shares_named orphans)
 
 -- commit or not: the verdict kept from an earlier round; commit, where a share is reported Committed or all are ready;
 -- else rollback
 abbrev pub verdict : Option Bool → List Orphan → List Member → Bool
 verdict (Some kept) orphans members = kept
-verdict None orphans members = list_any is_committed (reported orphans) || all_ready orphans members
+verdict None orphans members = is_committed_in (reported orphans) || all_ready orphans members

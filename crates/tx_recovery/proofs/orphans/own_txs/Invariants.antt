@@ -1,0 +1,6 @@
+use Rattle.std.proofs.Common.{drop, ◌++◌, ◌≡◌}
+use Rattle.base_words.specs.Tables.{keys_in}
+use Rattle.tx_recovery.proofs.orphans.own_txs.Given as goal
+
+abbrev pub invariant-loop-tx : goal.invariant-loop-tx
+invariant-loop-tx l = l.txs ++ keys_in (drop l.tx-index l.tx-items) ≡ keys_in l.tx-items
