@@ -1,5 +1,4 @@
 pub mod Cuts
-mod Examples
-mod GoodExamples
-pub mod GoodLaws
+pub mod Few
+pub mod Holds
 pub mod WordLemmas
