@@ -1,4 +1,9 @@
 pub mod Cuts
 pub mod Few
+pub mod GoodKept
+pub mod GoodCaches
+pub mod GoodLines
+pub mod GoodLists
+pub mod GoodPlans
 pub mod Holds
 pub mod WordLemmas

@@ -38,7 +38,7 @@ key_words format word = if format == 2 then (do
   cache ← name found.0
   k ← key found.1
   Ok (record { cache = cache; key = k }))
-  else (key word >>= λ k. Ok (record { cache = Some (codes "default"); key = k }))
+    else (key word >>= λ k. Ok (record { cache = Some (codes "default"); key = k }))
 
 -- `NAME/X`
 abbrev pub object_words : List ℕ → Result KeyWords Cause

@@ -24,8 +24,11 @@ use std::alloc::Global;
 
 /// The most caches, nodes, steps and sessions of a run.
 const CACHES: usize = 8;
+
 const NODES: usize = 16;
+
 const STEPS: usize = 64;
+
 const SESSIONS: usize = 64;
 
 /// The most commands of a session.
@@ -108,17 +111,15 @@ impl Draft {
     }
 
     /// Takes a setting of format 1.
-    fn with_setting(
-        &mut self,
-        alloc: Global,
-        setting: Setting,
-        n: u32,
-    ) -> Result<(), LineFault>
+    fn with_setting(&mut self, alloc: Global, setting: Setting, n: u32) -> Result<(), LineFault>
         ensures { Becomes result self.new (with_setting self.old setting n) }
     {
         let place = place_of(setting);
         rule(self.place.stands_once(place), Cause::Syntax)?;
-        rule(setting_fits(setting, n), Cause::Limit(setting_what(setting)))?;
+        rule(
+            setting_fits(setting, n),
+            Cause::Limit(setting_what(setting)),
+        )?;
         let settings = set(self.settings, setting, n);
         let mut caches = List::new(alloc);
         caches.push(default_cache(alloc, settings)?)?;
@@ -308,8 +309,9 @@ impl Draft {
         requires { length self.old.caches ≤ 8 }
         ensures { Becomes result self.new (with_stop self.old moment name.now) }
     {
-        let stands =
-            self.place.stands(Place::Plan) && !self.names_data(name) && !self.names_first(name);
+        let stands = self.place.stands(Place::Plan)
+            && !self.names_data(name)
+            && !self.names_first(name);
         rule(stands, Cause::Syntax)?;
         rule(moment_fits(moment), Cause::Limit(What::Moment))?;
         let name = fit(*name, What::Name)?;

@@ -66,9 +66,7 @@ fn same_kind(a: Kind, b: Kind) -> bool
 pub fn is_other(objects: &[(Key, Kind)], key: &Key, kind: Kind) -> bool
     ensures { result ≡ is_other objects.now key.now kind }
 {
-    objects
-        .iter()
-        .any(|known| same_object(&known.0, key) && !same_kind(known.1, kind))
+    objects.iter().any(|known| same_object(&known.0, key) && !same_kind(known.1, kind))
 }
 
 /// Whether the object's kind is known.

@@ -24,3 +24,6 @@ pub use print::{print_scenario, write_step};
 pub use read::{TEXT_BYTES, read_scenario};
 pub use runnable::not_yet;
 pub use text_out::TextOut;
+
+#[cfg(test)]
+mod tests;

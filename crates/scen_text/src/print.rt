@@ -5,7 +5,7 @@ ghost use Rattle.scen_text.specs.Printing.{shape_text, setting_text, settings_te
 
 use crate::items::write_item;
 use crate::text_out::TextOut;
-use ignite_types::{Cache, Item, Member, Mem, NodeId, PlanStep, Scenario, Session, Step};
+use ignite_types::{Cache, Item, Mem, Member, NodeId, PlanStep, Scenario, Session, Step};
 use std::alloc::Global;
 
 /// Writes a space and a number.
