@@ -13,6 +13,8 @@ use Rattle.ignite_types.specs.declared.text.Key.{Key}
 use Rattle.ignite_types.specs.declared.scenario.Command.{Command}
 use Rattle.ignite_types.specs.declared.scenario.Command.TheVariants as command
 use Rattle.ignite_types.specs.declared.scenario.Mode.{Mode}
+use Rattle.ignite_types.specs.declared.scenario.Step.{Step}
+use Rattle.ignite_types.specs.declared.scenario.Step.TheVariants as steps
 use Rattle.scen_text.specs.declared.cause.Cause.{Cause}
 use Rattle.scen_text.specs.declared.keyword.Keyword.{Keyword}
 use Rattle.scen_text.specs.declared.keyword.Keyword.TheVariants as keyword
@@ -72,11 +74,19 @@ is_bare command.Rollback = true
 is_bare (command.Sleep m) = true
 is_bare _ = false
 
+-- a step that loses a node, or holds or releases a link
+abbrev pub is_link : Step → Bool
+is_link (steps.Lose n) = true
+is_link (steps.Hold m n) = true
+is_link (steps.Release m n) = true
+is_link _ = false
+
 abbrev pub GoodLine : ℕ → Line → Type 0
 GoodLine format (line.Head f) = (f ≡ 1) ⊎ (f ≡ 2)
 GoodLine format (line.Setting s n) = (format == 2) ≡ false
 GoodLine format (line.Cache d words) = ((format == 2) ≡ true) × GoodName words.name
 GoodLine format (line.Start m words) = ((format == 2) ≡ true) × GoodName words.name
+GoodLine format (line.Links m s) = is_link s ≡ true
 GoodLine format (line.Stop m called) = GoodName called
 GoodLine format (line.Session called n) = GoodName called
 GoodLine format (line.Bare c) = is_bare c ≡ true
@@ -267,9 +277,9 @@ fits-step_keyword format word =
 
 step-good : (format moment : ℕ) (k : StepKeyword) (rest : List (List ℕ)) → FitsStep format k → Holds (GoodLine format) (step_meant moment k rest)
 step-good format moment step.Join rest f = any_then (GoodLine format) (two_words rest) _ (λ w. any_then (GoodLine format) (node w.0) _ (λ n. any_then (GoodLine format) (role w.1) _ (λ s. tt)))
-step-good format moment step.Lose rest f = any_then (GoodLine format) (only_word rest) _ (λ w. any_then (GoodLine format) (node w) _ (λ n. tt))
-step-good format moment step.Hold rest f = any_then (GoodLine format) (two_words rest) _ (λ w. any_then (GoodLine format) (node w.0) _ (λ n. any_then (GoodLine format) (node w.1) _ (λ m. tt)))
-step-good format moment step.Release rest f = any_then (GoodLine format) (two_words rest) _ (λ w. any_then (GoodLine format) (node w.0) _ (λ n. any_then (GoodLine format) (node w.1) _ (λ m. tt)))
+step-good format moment step.Lose rest f = any_then (GoodLine format) (only_word rest) _ (λ w. any_then (GoodLine format) (node w) _ (λ n. refl))
+step-good format moment step.Hold rest f = any_then (GoodLine format) (two_words rest) _ (λ w. any_then (GoodLine format) (node w.0) _ (λ n. any_then (GoodLine format) (node w.1) _ (λ m. refl)))
+step-good format moment step.Release rest f = any_then (GoodLine format) (two_words rest) _ (λ w. any_then (GoodLine format) (node w.0) _ (λ n. any_then (GoodLine format) (node w.1) _ (λ m. refl)))
 step-good format moment step.Start rest f = then_holds (GoodLine format) (λ w. GoodName w.name) (cache_words rest) _ (cache_words-good rest) (λ w g. (f, g))
 step-good format moment step.Stop rest f =
     any_then (GoodLine format) (only_word rest) _ (λ w. then_holds (GoodLine format) GoodName (name w) _ (name-good w) (λ called h. h))

@@ -139,7 +139,7 @@ plan-started named caches c plan moment h few within rising late plain =
 
 -- a stop
 
-none_at : (q : Cache → Bool) (xs : List Cache) (n : ℕ) (c : Cache) → list_any q xs ≡ false → slice_get xs n ≡ Some c → q c ≡ false
+pub none_at : (q : Cache → Bool) (xs : List Cache) (n : ℕ) (c : Cache) → list_any q xs ≡ false → slice_get xs n ≡ Some c → q c ≡ false
 none_at q [] n c h e = cc
 none_at q (x ∷ xs) zero c h e = let same : x ≡ c = cc in subst (λ (k : Cache). q k ≡ false) same (none_of (q x) (list_any q xs) h).0
 none_at q (x ∷ xs) (suc n) c h e = none_at q xs n c (none_of (q x) (list_any q xs) h).1 e

@@ -32,3 +32,8 @@ rule_then P false cause next f = tt
 pub fit_then : {A B : Type 0} (P : B → Type 0) (o : Option A) (w : What) (next : A → Result B Cause) → ((x : A) → o ≡ Some x → Holds P (next x)) → Holds P (fit o w >>= next)
 fit_then P (Some x) w next f = f x refl
 fit_then P None w next f = tt
+
+-- behind a step that answers
+pub ok_then : {A B : Type 0} (P : B → Type 0) (r : Result A Cause) (next : A → Result B Cause) → ((x : A) → r ≡ Ok x → Holds P (next x)) → Holds P (r >>= next)
+ok_then P (Ok x) next f = f x refl
+ok_then P (Err e) next f = tt

@@ -1,9 +1,11 @@
 pub mod Cuts
 pub mod Few
+pub mod GoodDrafts
 pub mod GoodKept
 pub mod GoodCaches
 pub mod GoodLines
 pub mod GoodLists
 pub mod GoodPlans
+pub mod GoodScripts
 pub mod Holds
 pub mod WordLemmas
