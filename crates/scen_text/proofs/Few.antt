@@ -1,29 +1,22 @@
 -- There are never more than 8 caches.
-use Rattle.std.proofs.Common.{◌≡◌, ℕ, ◌+◌, ◌<◌, ◌≤◌, Bool, true, false, List, [], ◌∷◌, ◌++◌, length, refl, arith, length-append, lit≤, subst}
-use Rattle.std.specs.Prelude.{◌&&◌, not, nat_lt, nat_le, ◌==◌, Option, Some, None, Result, Ok, Err, if◌then◌else◌}
+use Rattle.std.proofs.Common.{◌≡◌, ℕ, ◌+◌, ◌<◌, ◌≤◌, Bool, List, [], ◌∷◌, ◌++◌, length, arith, length-append, lit≤, subst}
+use Rattle.std.specs.Prelude.{◌&&◌, nat_lt, nat_le, ◌==◌, Option, Some, None, Result, Ok, if◌then◌else◌}
 use Rattle.std.proofs.lemmas.Bool.{cond_both, and_parts, ltb-true}
-use Rattle.ignite_types.specs.declared.names.NodeId.{NodeId}
 use Rattle.ignite_types.specs.declared.text.Key.{Key}
 use Rattle.ignite_types.specs.declared.scenario.Cache.{Cache}
-use Rattle.ignite_types.specs.declared.scenario.Command.{Command}
 use Rattle.ignite_types.specs.declared.scenario.Item.{Item}
-use Rattle.ignite_types.specs.declared.scenario.Member.{Member}
-use Rattle.ignite_types.specs.declared.scenario.Step.{Step}
 use Rattle.scen_text.specs.declared.cause.Cause.{Cause}
 use Rattle.scen_text.specs.declared.draft.Draft.{Draft}
 use Rattle.scen_text.specs.declared.limits.Kind.{Kind}
 use Rattle.scen_text.specs.declared.line.CacheWords.{CacheWords}
-use Rattle.scen_text.specs.declared.line.KeyWords.{KeyWords}
 use Rattle.scen_text.specs.declared.line.Line.{Line}
 use Rattle.scen_text.specs.declared.line.Line.TheVariants as line
 use Rattle.scen_text.specs.declared.line.Setting.{Setting}
-use Rattle.scen_text.specs.declared.line.Verb.{Verb}
 use Rattle.scen_text.specs.Causes.{◌>>=◌}
-use Rattle.scen_text.specs.Drafts.{with_head, with_setting, total_with, with_cache, with_member, with_join, with_links, with_start, with_stop, with_session, with_object, with_bare, with_keyed, with_end, stepped, line_taken}
+use Rattle.scen_text.specs.Drafts.{with_head, with_setting, total_with, with_cache, with_start, with_object, stepped, line_taken}
 use Rattle.scen_text.specs.Known.{has_object}
-use Rattle.scen_text.specs.Limits.{cache_of}
 use Rattle.scen_text.specs.Meaning.{line_of}
-use Rattle.scen_text.proofs.Holds.{Holds, then_holds, any_then, rule_then, fit_then}
+use Rattle.scen_text.proofs.Holds.{Holds, then_holds, any_then, rule_then}
 
 abbrev pub Few : Draft → Type 0
 Few d = length d.caches ≤ 8

@@ -1,16 +1,12 @@
 -- Lines of caches keep what is known of a draft.
-use Rattle.std.proofs.Common.{◌≡◌, ℕ, ◌+◌, ◌<◌, ◌≤◌, Bool, true, false, zero, suc, List, [], ◌∷◌, ◌++◌, length, refl, ap, sym, ◌∙◌, subst, arith, length-append, append-nil, inl, inr, lit≤}
-use Rattle.std.specs.Prelude.{◌&&◌, ◌||◌, not, ◌==◌, nat_le, nat_lt, filter, filter_map, sum_by, bytes_eq, slice_get, option_to_list, Option, Some, None, Result, Ok, Err, if◌then◌else◌, ◌⊎◌}
-use Rattle.std.specs.List.{list_all, list_any}
-use Rattle.std.proofs.lemmas.Bool.{cond_both, and_parts, and_from, not-true, or_left, eqb-true, eq-eqb, ltb-true, leb-true, le-leb}
+use Rattle.std.proofs.Common.{◌≡◌, ℕ, ◌+◌, ◌<◌, ◌≤◌, Bool, true, false, zero, suc, List, [], ◌∷◌, ◌++◌, length, refl, ap, ◌∙◌, arith, length-append, inl, inr, lit≤}
+use Rattle.std.specs.Prelude.{◌&&◌, ◌||◌, not, ◌==◌, nat_le, nat_lt, filter, Option, Some, None, Ok, if◌then◌else◌, ◌⊎◌}
+use Rattle.std.specs.List.{list_all}
+use Rattle.std.proofs.lemmas.Bool.{cond_both, and_parts, not-true, ltb-true, leb-true}
 use Rattle.std.proofs.lemmas.List.Sums.{sum_by-append}
-use Rattle.std.proofs.lemmas.List.Elements.{filter-append, filter_map-append}
-use Rattle.ignite_types.specs.Good.{is_within, is_name, are_distinct, good_cache, in_order, has_cache_line, has_data_line, is_started, same_cache_name}
+use Rattle.ignite_types.specs.Good.{is_within, is_name, good_cache, is_started, same_cache_name}
 use Rattle.ignite_types.specs.declared.names.NodeId.{NodeId}
 use Rattle.ignite_types.specs.declared.scenario.Cache.{Cache}
-use Rattle.ignite_types.specs.declared.scenario.PlanStep.{PlanStep}
-use Rattle.ignite_types.specs.declared.scenario.Session.{Session}
-use Rattle.scen_text.specs.declared.cause.Cause.{Cause}
 use Rattle.scen_text.specs.declared.cause.Cause.TheVariants.{Limit}
 use Rattle.scen_text.specs.declared.cause.What.{What}
 use Rattle.scen_text.specs.declared.cause.What.TheVariants as what
@@ -25,11 +21,11 @@ use Rattle.scen_text.specs.Causes.{◌>>=◌, rule, fit}
 use Rattle.scen_text.specs.Drafts.{total_with}
 use Rattle.scen_text.specs.Known.{has_cache}
 use Rattle.scen_text.specs.Limits.{set, setting_fits, default_cache, cache_fits, cache_of}
-use Rattle.scen_text.specs.Places.{rank, stands, stands_once, in_script, is_start, place_of}
-use Rattle.scen_text.proofs.GoodKept.{Fit, NoCaches, FirstCaches, SecondCaches, is_kind, CachesOf, Placed, PlanOf, SessionsOf, ScriptOf, started_at, steps_of, good_script}
-use Rattle.scen_text.proofs.GoodLines.{If, GoodName}
+use Rattle.scen_text.specs.Places.{rank, stands, stands_once, is_start}
+use Rattle.scen_text.proofs.GoodKept.{Fit, NoCaches, SecondCaches, is_kind, CachesOf, PlanOf, SessionsOf, started_at}
+use Rattle.scen_text.proofs.GoodLines.{GoodName}
 use Rattle.scen_text.proofs.GoodLists.{pushed_all, pushed_distinct, pushed_order, may_precede}
-use Rattle.scen_text.proofs.Holds.{Holds, rule_then, fit_then}
+use Rattle.scen_text.proofs.Holds.{Holds, rule_then}
 
 -- a cache that its words name well
 pub cache_of-good : (w : What) (first is_data : Bool) (words : CacheWords) → GoodName words.name

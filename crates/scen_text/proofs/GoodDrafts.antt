@@ -1,13 +1,13 @@
 -- Each line keeps what is known of a draft.
-use Rattle.std.proofs.Common.{◌≡◌, ℕ, ◌+◌, ◌<◌, ◌≤◌, Bool, true, false, List, [], ◌∷◌, ◌++◌, length, refl, ap, sym, ◌∙◌, subst, arith, length-append, append-nil, append_assoc, inl, inr, lit≤}
-use Rattle.std.specs.Prelude.{◌&&◌, ◌||◌, not, ◌==◌, nat_le, nat_lt, filter_map, flat_map, bytes_eq, slice_get, Option, Some, None, Result, Ok, Err, if◌then◌else◌, ◌⊎◌}
+use Rattle.std.proofs.Common.{◌≡◌, ℕ, ◌<◌, ◌≤◌, Bool, true, false, List, [], ◌∷◌, ◌++◌, length, refl, ap, sym, ◌∙◌, subst, arith, length-append, append-nil, append_assoc, inl, inr, lit≤}
+use Rattle.std.specs.Prelude.{◌&&◌, ◌||◌, not, ◌==◌, nat_le, nat_lt, filter_map, flat_map, bytes_eq, Option, Some, None, Ok, if◌then◌else◌, ◌⊎◌}
 use Rattle.std.specs.Option.{unwrap_or}
-use Rattle.std.specs.List.{list_all, list_any}
-use Rattle.std.proofs.lemmas.Bool.{cond_both, and_parts, and_from, not-true, or_left, eqb-true, eq-eqb, ltb-true, leb-true, le-leb}
+use Rattle.std.specs.List.{list_all}
+use Rattle.std.proofs.lemmas.Bool.{cond_both, and_parts, and_from, not-true, ltb-true, leb-true, le-leb}
 use Rattle.std.proofs.lemmas.List.Elements.{filter_map-append}
 use Rattle.std.proofs.lemmas.Grind.{flat_map-append}
 use Rattle.ignite_types.specs.Texts.{is_key_byte}
-use Rattle.ignite_types.specs.Good.{is_within, is_text, is_name, has_cache_line, is_started, has_data_line, good_cache, good_key, good_object, good_item, good_blocks, is_plain, object_of, joining, starting, same_node, same_session_name, has_member, can_stop}
+use Rattle.ignite_types.specs.Good.{is_within, is_text, is_name, has_cache_line, good_cache, good_key, good_object, good_item, is_plain, object_of, joining, starting, same_node, same_session_name, has_member}
 use Rattle.ignite_types.specs.declared.names.NodeId.{NodeId}
 use Rattle.ignite_types.specs.declared.text.Key.{Key}
 use Rattle.ignite_types.specs.declared.scenario.Cache.{Cache}
@@ -19,7 +19,6 @@ use Rattle.ignite_types.specs.declared.scenario.PlanStep.{PlanStep}
 use Rattle.ignite_types.specs.declared.scenario.Session.{Session}
 use Rattle.ignite_types.specs.declared.scenario.Step.{Step}
 use Rattle.ignite_types.specs.declared.scenario.Step.TheVariants as step
-use Rattle.scen_text.specs.declared.cause.Cause.{Cause}
 use Rattle.scen_text.specs.declared.cause.Cause.TheVariants.{Syntax, Limit}
 use Rattle.scen_text.specs.declared.cause.What.TheVariants as what
 use Rattle.scen_text.specs.declared.draft.Draft.{Draft}
@@ -34,16 +33,15 @@ use Rattle.scen_text.specs.declared.line.Verb.{Verb}
 use Rattle.scen_text.specs.declared.line.Verb.TheVariants as verb
 use Rattle.scen_text.specs.declared.place.Place.{Place}
 use Rattle.scen_text.specs.declared.place.Place.TheVariants as place
-use Rattle.scen_text.specs.Causes.{◌>>=◌, rule, fit}
 use Rattle.scen_text.specs.Drafts.{no_session, with_head, with_setting, total_with, with_cache, with_member, nodes_named, with_join, with_links, with_start, with_stop, with_session, with_object, with_item, has_room, with_bare, verb_stands, with_keyed, with_end, stepped, line_taken}
-use Rattle.scen_text.specs.Known.{cache_place, has_cache, has_object, has_session, is_named, is_other, is_stopped, names_data_here, names_plain_here, names_first, place_named, place_of_key, known, in_cache, agrees, rises, cache_line_place, cache_what, member_what}
-use Rattle.scen_text.specs.Limits.{setting_fits, setting_what, default_cache, cache_of, nodes_fit, bare_fits, bare_what, kind_of, keyed, set}
+use Rattle.scen_text.specs.Known.{cache_place, has_cache, has_object, has_session, is_named, is_other, is_stopped, names_data_here, names_plain_here, names_first, place_named, place_of_key, known, in_cache, rises, member_what}
+use Rattle.scen_text.specs.Limits.{setting_fits, setting_what, default_cache, cache_of, nodes_fit, bare_fits, bare_what, kind_of, keyed}
 use Rattle.scen_text.specs.Meaning.{line_of}
 use Rattle.scen_text.specs.Places.{rank, stands, stands_once, in_script, is_outside, is_start, place_after, place_of}
 use Rattle.scen_text.proofs.GoodCaches.{cache_of-good, stands_below, once_below, start_rank, no_plan, no_sessions, caches-setting, caches-head, Room, room, caches-pushed}
-use Rattle.scen_text.proofs.GoodKept.{CachesOf, Placed, NodesOf, PlanOf, SessionsOf, ScriptOf, ObjectsOf, Kept, is_kind, stop_fits, steps_of, good_script, is_block, open_after, kind_seen, objects_in, in_table}
+use Rattle.scen_text.proofs.GoodKept.{CachesOf, Placed, NodesOf, PlanOf, SessionsOf, ScriptOf, ObjectsOf, Kept, is_kind, stop_fits, steps_of, good_script, is_block, objects_in}
 use Rattle.scen_text.proofs.GoodLines.{If, GoodName, GoodText, GoodObject, GoodValue, GoodVerb, GoodLine, is_bare, is_link, line_of-good}
-use Rattle.scen_text.proofs.GoodLists.{pushed_all, pushed_distinct, may_precede, none_of}
+use Rattle.scen_text.proofs.GoodLists.{pushed_all, pushed_distinct, may_precede}
 use Rattle.scen_text.proofs.GoodPlans.{plan-pushed, plan-started, stop-can, none_at, cache_at}
 use Rattle.scen_text.proofs.GoodScripts.{script_after, script_rank, script_started, open_now, script-pushed, bare-good, GoodFor, value_of, plain_kind, Made, made, objects-plain, objects-known, objects-new}
 use Rattle.scen_text.proofs.Holds.{Holds, then_holds, ok_then, rule_then, fit_then}

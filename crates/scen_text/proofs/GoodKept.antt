@@ -1,6 +1,6 @@
 -- What is known of a draft behind each line.
 use Rattle.std.proofs.Common.{◌≡◌, ℕ, ◌+◌, ◌≤◌, Bool, true, false, List, [], ◌∷◌, ◌++◌, length}
-use Rattle.std.specs.Prelude.{◌&&◌, ◌||◌, not, ◌==◌, nat_le, filter, filter_map, flat_map, map, sum_by, slice_get, option_to_list, ◌⊎◌}
+use Rattle.std.specs.Prelude.{◌&&◌, ◌||◌, not, nat_le, filter, filter_map, flat_map, map, sum_by, slice_get, option_to_list, ◌⊎◌}
 use Rattle.std.specs.List.{list_all, list_any}
 use Rattle.ignite_types.specs.Good.{is_within, is_name, are_distinct, good_cache, in_order, has_cache_line, is_started, same_cache_name, joining, same_node, no_moment_falls, starting, starts, can_stop, count_up, good_item, good_blocks, open_behind, object_of, good_kinds, same_session_name, ObjectKind, Long, Sequence, Queue}
 use Rattle.ignite_types.specs.Good as good

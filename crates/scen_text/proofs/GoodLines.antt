@@ -1,10 +1,10 @@
 -- What is known of a line by its words alone.
-use Rattle.std.proofs.Common.{◌≡◌, ℕ, ◌+◌, ◌<◌, ◌≤◌, Bool, true, false, List, [], ◌∷◌, length, refl, arith}
-use Rattle.std.specs.Prelude.{◌&&◌, ◌||◌, not, bytes_eq, ◌==◌, nat_le, nat_lt, codes, Option, Some, None, Result, Ok, Err, if◌then◌else◌, ◌⊎◌}
+use Rattle.std.proofs.Common.{◌≡◌, ℕ, ◌+◌, ◌≤◌, Bool, true, false, List, [], ◌∷◌, length, refl, arith}
+use Rattle.std.specs.Prelude.{◌&&◌, ◌||◌, not, bytes_eq, ◌==◌, nat_le, nat_lt, codes, Option, Some, None, Result, Ok, Err, ◌⊎◌}
 use Rattle.std.specs.List.{list_all, position_or_len}
 use Rattle.std.specs.Str.{is_utf8}
 use Rattle.std.proofs.Common.{inl, inr}
-use Rattle.std.proofs.lemmas.Bool.{cond_both, not-true, and_parts, and_from, eqb-false, ltb-false, le-leb, leb-true}
+use Rattle.std.proofs.lemmas.Bool.{cond_both, and_parts, and_from, eqb-false, ltb-false, le-leb, leb-true}
 use Rattle.ignite_types.specs.Texts.{text_of, first_bad, unless_bad, in_cache, is_key_byte, is_value_byte}
 use Rattle.ignite_types.specs.Good.{is_within, is_text, is_name, is_name_byte, good_value}
 use Rattle.ignite_types.specs.declared.text.TextFault.{TextFault}
@@ -12,15 +12,12 @@ use Rattle.ignite_types.specs.declared.text.TextFault.TheVariants as text
 use Rattle.ignite_types.specs.declared.text.Key.{Key}
 use Rattle.ignite_types.specs.declared.scenario.Command.{Command}
 use Rattle.ignite_types.specs.declared.scenario.Command.TheVariants as command
-use Rattle.ignite_types.specs.declared.scenario.Mode.{Mode}
 use Rattle.ignite_types.specs.declared.scenario.Step.{Step}
 use Rattle.ignite_types.specs.declared.scenario.Step.TheVariants as steps
-use Rattle.scen_text.specs.declared.cause.Cause.{Cause}
 use Rattle.scen_text.specs.declared.keyword.Keyword.{Keyword}
 use Rattle.scen_text.specs.declared.keyword.Keyword.TheVariants as keyword
 use Rattle.scen_text.specs.declared.keyword.StepKeyword.{StepKeyword}
 use Rattle.scen_text.specs.declared.keyword.StepKeyword.TheVariants as step
-use Rattle.scen_text.specs.declared.line.CacheWords.{CacheWords}
 use Rattle.scen_text.specs.declared.line.KeyWords.{KeyWords}
 use Rattle.scen_text.specs.declared.line.Line.{Line}
 use Rattle.scen_text.specs.declared.line.Line.TheVariants as line
@@ -28,7 +25,6 @@ use Rattle.scen_text.specs.declared.line.Verb.{Verb}
 use Rattle.scen_text.specs.declared.line.Verb.TheVariants as verb
 use Rattle.scen_text.specs.declared.line.Setting.{Setting}
 use Rattle.scen_text.specs.declared.line.Setting.TheVariants as setting
-use Rattle.scen_text.specs.Causes.{◌>>=◌}
 use Rattle.scen_text.specs.Forms.{cache_words, node, mode, role, key_words, object_words}
 use Rattle.scen_text.specs.Keywords.{shared_keyword, command_keyword, first_keyword, second_keyword, or_else, keyword_of, step_keyword}
 use Rattle.scen_text.specs.Meaning.{format_of, head_line, setting_line, cache_line, member_line, session_line, timeout, begin_line, sleep_line, bare_line, key_line, key_value_line, key_integer_line, object_line, object_value_line, object_integer_line, meant, known, meaning, is_remark, line_of}
@@ -36,7 +32,7 @@ use Rattle.scen_text.specs.Plans.{step_meant, step_or_syntax, plan_line}
 use Rattle.scen_text.specs.Words as words
 use Rattle.scen_text.specs.Words.{only_word, two_words, number, name, fitting, key, object, value, at_slash, integer}
 use Rattle.scen_text.proofs.Cuts.{place_none}
-use Rattle.scen_text.proofs.Holds.{Holds, then_holds, any_holds, any_then}
+use Rattle.scen_text.proofs.Holds.{Holds, then_holds, any_then}
 
 -- what is known of a text that may be too long
 abbrev pub If : {A : Type 0} → (A → Type 0) → Option A → Type 0

@@ -1,21 +1,20 @@
 -- Plan lines keep what is known of a draft.
-use Rattle.std.proofs.Common.{◌≡◌, ℕ, ◌+◌, ◌<◌, ◌≤◌, Bool, true, false, zero, suc, List, [], ◌∷◌, ◌++◌, length, refl, ap, sym, ◌∙◌, subst, arith, length-append, append-nil, append_assoc, inl, inr, lit≤}
-use Rattle.std.specs.Prelude.{◌&&◌, ◌||◌, not, ◌==◌, nat_le, nat_lt, filter, filter_map, map, position, bytes_eq, slice_get, option_to_list, Option, Some, None, Result, Ok, Err, ◌⊎◌}
-use Rattle.std.specs.List.{list_all, list_any}
+use Rattle.std.proofs.Common.{◌≡◌, ℕ, ◌+◌, ◌<◌, Bool, true, false, zero, suc, List, [], ◌∷◌, ◌++◌, length, refl, ap, ◌∙◌, subst, arith, length-append, append-nil, append_assoc, inl, inr}
+use Rattle.std.specs.Prelude.{◌&&◌, ◌||◌, not, ◌==◌, filter, bytes_eq, slice_get, option_to_list, Some, None, ◌⊎◌}
+use Rattle.std.specs.List.{list_any}
 use Rattle.std.specs.List.{position_or_len}
-use Rattle.std.proofs.lemmas.Bool.{cond_both, and_parts, and_from, not-true, or_left, eqb-true, eq-eqb, ltb-true, leb-true, le-leb}
+use Rattle.std.proofs.lemmas.Bool.{and_parts, and_from, or_left, eq-eqb}
 use Rattle.std.proofs.lemmas.List.Folds.{list_any-append}
 use Rattle.std.proofs.lemmas.List.Elements.{filter-append, filter_map-append}
-use Rattle.ignite_types.specs.Good.{is_within, no_moment_falls, has_cache_line, is_started, starting, starts, stops, can_stop, joining}
+use Rattle.ignite_types.specs.Good.{is_within, has_cache_line, is_started, starting, starts, stops, can_stop}
 use Rattle.ignite_types.specs.declared.names.NodeId.{NodeId}
 use Rattle.ignite_types.specs.declared.scenario.Cache.{Cache}
-use Rattle.ignite_types.specs.declared.scenario.Member.{Member}
 use Rattle.ignite_types.specs.declared.scenario.PlanStep.{PlanStep}
 use Rattle.ignite_types.specs.declared.scenario.Step.{Step}
 use Rattle.ignite_types.specs.declared.scenario.Step.TheVariants as step
 use Rattle.scen_text.specs.Drafts.{nodes_named}
 use Rattle.scen_text.specs.Known.{cache_place, names_data, is_first, is_stopped, rises}
-use Rattle.scen_text.proofs.GoodKept.{is_kind, PlanOf, stop_fits, stops_fit, steps_of, started_of, started_at}
+use Rattle.scen_text.proofs.GoodKept.{PlanOf, stop_fits, stops_fit, steps_of, started_of, started_at}
 use Rattle.scen_text.proofs.Cuts.{place_some_of}
 use Rattle.scen_text.proofs.GoodLists.{pushed_all, pushed_moment, pushed_count, none_of}
 

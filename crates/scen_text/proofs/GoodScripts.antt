@@ -1,12 +1,11 @@
 -- Commands keep what is known of a draft.
-use Rattle.std.proofs.Common.{◌≡◌, ℕ, ◌+◌, ◌<◌, ◌≤◌, Bool, true, false, zero, suc, List, [], ◌∷◌, ◌++◌, length, refl, ap, sym, ◌∙◌, subst, arith, length-append, append-nil, append_assoc}
-use Rattle.std.specs.Prelude.{◌&&◌, ◌||◌, not, ◌==◌, nat_le, nat_lt, filter_map, flat_map, bytes_eq, slice_get, Option, Some, None, Result, Ok, Err}
-use Rattle.std.specs.List.{list_all, list_any}
-use Rattle.std.proofs.lemmas.Bool.{cond_both, and_parts, and_from, not-true, or_left, or_right, eqb-true, eq-eqb, ltb-true, leb-true, le-leb}
-use Rattle.std.proofs.lemmas.List.Folds.{list_any-append, list_all-append}
+use Rattle.std.proofs.Common.{◌≡◌, ℕ, ◌<◌, Bool, true, false, List, [], ◌∷◌, ◌++◌, length, refl, ap, sym, ◌∙◌, subst, arith, length-append, append-nil, append_assoc}
+use Rattle.std.specs.Prelude.{◌&&◌, ◌||◌, not, ◌==◌, nat_le, filter_map, flat_map, bytes_eq, Option, Some, None, Result, Ok}
+use Rattle.std.specs.List.{list_all}
+use Rattle.std.proofs.lemmas.Bool.{and_parts, and_from, or_left, or_right, eqb-true, eq-eqb, le-leb}
+use Rattle.std.proofs.lemmas.List.Folds.{list_any-append}
 use Rattle.std.proofs.lemmas.List.Elements.{filter_map-append}
 use Rattle.std.proofs.lemmas.Slice.Eq.{bytes_eq-Decides}
-use Rattle.ignite_types.specs.Texts.{is_key_byte}
 use Rattle.ignite_types.specs.Good.{is_text, is_name, good_key, good_object, good_value, good_command, good_item, good_blocks, is_plain, open_behind, object_of, good_kinds, agrees, ObjectKind}
 use Rattle.ignite_types.specs.Good as good
 use Rattle.ignite_types.specs.declared.names.NodeId.{NodeId}
@@ -27,8 +26,8 @@ use Rattle.scen_text.specs.declared.place.Place.TheVariants as place
 use Rattle.scen_text.specs.Known.{same_object, same_kind, is_other, has_object}
 use Rattle.scen_text.specs.Limits.{bare_fits, kind_of, keyed}
 use Rattle.scen_text.specs.Places.{rank, in_script, is_start, place_after}
-use Rattle.scen_text.proofs.GoodKept.{open_after, is_block, kind_seen, in_table, objects_in, ObjectsOf, good_script, Placed}
-use Rattle.scen_text.proofs.GoodLines.{If, GoodValue, is_bare}
+use Rattle.scen_text.proofs.GoodKept.{open_after, is_block, kind_seen, in_table, objects_in, ObjectsOf, good_script}
+use Rattle.scen_text.proofs.GoodLines.{GoodValue, is_bare}
 use Rattle.scen_text.proofs.GoodLists.{pushed_all, none_of}
 
 -- places

@@ -1,6 +1,6 @@
 -- What is known of an answer, where there is one.
 use Rattle.std.proofs.Common.{◌≡◌, Bool, true, false, refl}
-use Rattle.std.specs.Prelude.{ℕ, Option, Some, None, Result, Ok, Err}
+use Rattle.std.specs.Prelude.{Option, Some, None, Result, Ok, Err}
 use Rattle.scen_text.specs.declared.cause.Cause.{Cause}
 use Rattle.scen_text.specs.declared.cause.What.{What}
 use Rattle.scen_text.specs.Causes.{◌>>=◌, rule, fit}

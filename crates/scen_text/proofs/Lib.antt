@@ -7,5 +7,7 @@ pub mod GoodLines
 pub mod GoodLists
 pub mod GoodPlans
 pub mod GoodScripts
+pub mod GoodTexts
+pub mod NamedLines
 pub mod Holds
 pub mod WordLemmas

@@ -1,5 +1,5 @@
 -- The first words of lines, and the words of steps.
-use Rattle.std.specs.Prelude.{ℕ, Bool, ◌&&◌, ◌==◌, List, [], ◌∷◌, codes, bytes_eq, Option, Some, None, if◌then◌else◌}
+use Rattle.std.specs.Prelude.{ℕ, ◌&&◌, ◌==◌, List, codes, bytes_eq, Option, Some, None, if◌then◌else◌}
 use Rattle.scen_text.specs.declared.keyword.Keyword.{Keyword}
 use Rattle.scen_text.specs.declared.keyword.Keyword.TheVariants as keyword
 use Rattle.scen_text.specs.declared.keyword.StepKeyword.{StepKeyword}

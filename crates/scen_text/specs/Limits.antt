@@ -1,5 +1,5 @@
 -- The limits of the numbers of a scenario, and what a line makes of its words.
-use Rattle.std.specs.Prelude.{ℕ, Bool, true, false, ◌&&◌, nat_le, List, [], ◌∷◌, codes, Option, Some, None, Result, Ok, Err}
+use Rattle.std.specs.Prelude.{ℕ, Bool, true, false, ◌&&◌, nat_le, codes, Option, Some, None, Result, Ok}
 use Rattle.ignite_types.specs.Good.{is_within}
 use Rattle.ignite_types.specs.declared.text.Key.{Key}
 use Rattle.ignite_types.specs.declared.scenario.Cache.{Cache}

@@ -1,5 +1,5 @@
 -- What the words of a plan line mean, by the words behind the step's word.
-use Rattle.std.specs.Prelude.{ℕ, List, [], ◌∷◌, Option, Some, None, Result, Ok, Err}
+use Rattle.std.specs.Prelude.{ℕ, List, ◌∷◌, Option, Some, None, Result, Ok, Err}
 use Rattle.ignite_types.specs.declared.scenario.Step.TheVariants.{Lose, Hold, Release}
 use Rattle.scen_text.specs.declared.cause.Cause.{Cause}
 use Rattle.scen_text.specs.declared.cause.Cause.TheVariants.{Syntax}

@@ -1,5 +1,5 @@
 -- Which scenarios the machine runs so far.
-use Rattle.std.specs.Prelude.{ℕ, Bool, true, false, ◌&&◌, not, ◌==◌, List, [], ◌∷◌, length}
+use Rattle.std.specs.Prelude.{Bool, true, false, ◌&&◌, not, ◌==◌, List, [], ◌∷◌, length}
 use Rattle.ignite_types.specs.Good.{open_behind}
 use Rattle.ignite_types.specs.declared.scenario.Cache.{Cache}
 use Rattle.ignite_types.specs.declared.scenario.Command.TheVariants.{Begin, Get, Put, Commit}

@@ -1,7 +1,7 @@
 -- The words of a line, and the numbers, names, keys and values that words are. A word past its limit, of bytes that may
 -- stand there, is read as nothing.
 use Rattle.std.specs.Prelude.{ℕ, ℤ, pos, negsuc, ◌-◌, Bool, true, false, ◌&&◌, ◌||◌, not, nat_le, nat_lt, ◌==◌, List, [], ◌∷◌, length, filter, codes, bytes_eq, Option, Some, None, Result, Ok, Err, if◌then◌else◌}
-use Rattle.std.specs.List.{slice_split, list_all, list_any, position_or_len, before_first, after_first}
+use Rattle.std.specs.List.{slice_split, list_all, position_or_len, before_first, after_first}
 use Rattle.std.specs.Str.Parse.{digits_value}
 use Rattle.ignite_types.specs.Texts.{is_digit, is_key_byte, is_value_byte, key_of, value_of}
 use Rattle.ignite_types.specs.Good.{is_name_byte}

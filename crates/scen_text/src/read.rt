@@ -85,6 +85,7 @@ fn read_text(alloc: Global, text: &[u8]) -> Result<Scenario, ReadFault>
 /// that it breaks; only want of memory may come at any text.
 pub fn read_scenario(alloc: Global, bytes: &[u8]) -> Result<Scenario, ReadFault>
     ensures reads { Reads result (scenario_of bytes.now) }
+    ensures good { IfOk result (λ scenario. IsTrue (good scenario)) }
 {
     if bytes.len() > TEXT_BYTES {
         return Err(ReadFault::Refused {
