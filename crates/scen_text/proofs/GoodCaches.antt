@@ -38,6 +38,7 @@ cache_of-good w first is_data words g = named words.name g
         let outer = and_parts (is_within 1 1024 words.parts && nat_le words.backups 3) (nat_le words.near 10000) f in
         let inner = and_parts (is_within 1 1024 words.parts) (nat_le words.backups 3) outer.0 in
         rw (n, inner.0, inner.1, outer.1) refl
+
     named : (o : Option (List ℕ)) → GoodName o → Holds (λ c. (good_cache c ≡ true) × (c.first ≡ first) × (c.«data» ≡ is_data)) (fit o what.Name >>= λ called. (rule (cache_fits words) (Limit w) >>= λ u. Ok (record { name = called; parts = words.parts; backups = words.backups; near = words.near; first = first; «data» = is_data })))
     named None n = tt
     named (Some called) n = rule_then (λ c. (good_cache c ≡ true) × (c.first ≡ first) × (c.«data» ≡ is_data)) (cache_fits words) (Limit w) _ (λ f. (fits called n f, refl, refl))

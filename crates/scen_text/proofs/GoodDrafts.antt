@@ -242,7 +242,7 @@ members-same : (nodes members : List Member) (plan : List PlanStep) (moment : �
 members-same nodes members plan moment s none h =
     let x : PlanStep = record { moment = moment; step = s } in
     let same : filter_map (λ (p : PlanStep). joining p.step) (plan ++ x ∷ []) ≡ filter_map (λ (p : PlanStep). joining p.step) plan =
-        filter_map-append (λ (p : PlanStep). joining p.step) plan (x ∷ []) ∙ (rw none (append-nil (filter_map (λ (p : PlanStep). joining p.step) plan))) in
+    filter_map-append (λ (p : PlanStep). joining p.step) plan (x ∷ []) ∙ (rw none (append-nil (filter_map (λ (p : PlanStep). joining p.step) plan))) in
     record { whole = rw same h.whole; within = h.within; distinct = h.distinct; few = h.few }
 
 members-joined : (nodes members : List Member) (plan : List PlanStep) (moment : ℕ) (m : Member) → NodesOf nodes members plan → is_within 1 99 m.node.0 ≡ true → length members < 16
@@ -250,7 +250,7 @@ members-joined : (nodes members : List Member) (plan : List PlanStep) (moment : 
 members-joined nodes members plan moment m h within room new =
     let x : PlanStep = record { moment = moment; step = step.Join m } in
     let more : filter_map (λ (p : PlanStep). joining p.step) (plan ++ x ∷ []) ≡ filter_map (λ (p : PlanStep). joining p.step) plan ++ m ∷ [] =
-        filter_map-append (λ (p : PlanStep). joining p.step) plan (x ∷ []) in
+    filter_map-append (λ (p : PlanStep). joining p.step) plan (x ∷ []) in
     record {
       whole = rw more (ap (λ (ms : List Member). ms ++ m ∷ []) h.whole ∙ append_assoc nodes (filter_map (λ (p : PlanStep). joining p.step) plan) (m ∷ []));
       within = pushed_all (λ member. is_within 1 99 member.node.0) members m h.within within;
@@ -443,8 +443,8 @@ end-kept d h = rule_then Kept (in_script d.place) Syntax _ (λ inside.
     ended sessions s =
         let commands : List Item = flat_map (λ (whole : Session). whole.commands) sessions in
         let all : flat_map (λ (whole : Session). whole.commands) (sessions ++ s ∷ []) ++ [] ≡ commands ++ s.commands =
-            append-nil (flat_map (λ (whole : Session). whole.commands) (sessions ++ s ∷ [])) ∙ flat_map-append (λ (whole : Session). whole.commands) sessions (s ∷ [])
-            ∙ ap (λ (more : List Item). commands ++ more) (append-nil s.commands) in
+        append-nil (flat_map (λ (whole : Session). whole.commands) (sessions ++ s ∷ [])) ∙ flat_map-append (λ (whole : Session). whole.commands) sessions (s ∷ [])
+        ∙ ap (λ (more : List Item). commands ++ more) (append-nil s.commands) in
         ap (filter_map object_of) all
 
 -- a key of a plain cache

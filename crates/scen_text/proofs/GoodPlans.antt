@@ -113,9 +113,9 @@ pub plan-started : (named : List NodeId) (caches : List Cache) (c : Cache) (plan
 plan-started named caches c plan moment h few within rising late plain =
     let x : PlanStep = record { moment = moment; step = step.Start (length caches) } in
     let firsts : filter (λ (k : Cache). k.first) (caches ++ c ∷ []) ≡ filter (λ (k : Cache). k.first) caches =
-        filter-append (λ (k : Cache). k.first) caches (c ∷ []) ∙ (rw late (append-nil (filter (λ (k : Cache). k.first) caches))) in
+    filter-append (λ (k : Cache). k.first) caches (c ∷ []) ∙ (rw late (append-nil (filter (λ (k : Cache). k.first) caches))) in
     let lasts : filter is_started (caches ++ c ∷ []) ≡ filter is_started caches ++ c ∷ [] =
-        filter-append is_started caches (c ∷ []) ∙ (rw (late, plain) refl) in
+    filter-append is_started caches (c ∷ []) ∙ (rw (late, plain) refl) in
     let numbers : started_of (plan ++ x ∷ []) ≡ started_of plan ++ length caches ∷ [] = started-pushed plan x in
     record {
       few = omega (arith, length-append plan (x ∷ []));
@@ -187,6 +187,7 @@ stop-can named caches plan name n h plain later e new =
     left_false false b t h = refl
     left_false true true t h = cc
     left_false true false t h = cc
+
     either : (a b f : Bool) → (f ≡ true → a ≡ true) → (f ≡ false → b ≡ true) → ((true && (a || b)) && true) ≡ true
     either a b true l r = rw (l refl) refl
     either true b false l r = refl

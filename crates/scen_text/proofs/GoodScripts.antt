@@ -153,7 +153,7 @@ pub objects-plain : (objects : List (Key × Kind)) (sessions : List Session) (s 
     → ObjectsOf objects sessions (record s { commands = s.commands ++ x ∷ [] })
 objects-plain objects sessions s x h e =
     let same : objects_in sessions (record s { commands = s.commands ++ x ∷ [] }) ≡ objects_in sessions s =
-        objects-pushed sessions s x ∙ (rw e (append-nil (objects_in sessions s))) in
+    objects-pushed sessions s x ∙ (rw e (append-nil (objects_in sessions s))) in
     record { agree = rw same h.agree; kept = rw same h.kept }
 
 same_trans : (a b c : Key) → same_object a b ≡ true → same_object b c ≡ true → same_object a c ≡ true

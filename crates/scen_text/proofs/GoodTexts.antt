@@ -109,7 +109,7 @@ last_objects : (sessions : List Session) (s : Session) → s.commands ≡ [] →
     → good_kinds (filter_map object_of (flat_map (λ session. session.commands) sessions)) ≡ true
 last_objects sessions s none h =
     let all : flat_map (λ (session : Session). session.commands) sessions ++ [] ≡ flat_map (λ (session : Session). session.commands) sessions =
-        append-nil (flat_map (λ (session : Session). session.commands) sessions) in
+    append-nil (flat_map (λ (session : Session). session.commands) sessions) in
     rw all at (rw none at h)
 
 whole-good : (d : Draft) → Kept d → is_whole d ≡ true → ((n : NodeId) → is_named d.named n ≡ true → has_member d.members n ≡ true) → good (scenario d) ≡ true
@@ -124,15 +124,15 @@ whole-good d h w f =
     let few_steps : nat_le (length d.plan) 64 ≡ true = le-leb _ _ h.plan.few in
     let steps = steps-good d.named d.caches (members (scenario d)) [] d.plan fits h.plan.stops h.plan.nodes in
     let plan : good_plan (scenario d) ≡ true =
-        and_from _ (good_starts d.caches _)
-        (and_from _ (good_steps d.caches (members (scenario d)) [] d.plan) (rw (few_steps, h.plan.moments, h.plan.rising) refl) steps)
-        (and_from _ _ h.plan.numbers (eq-eqb _ _ h.plan.counted)) in
+    and_from _ (good_starts d.caches _)
+    (and_from _ (good_steps d.caches (members (scenario d)) [] d.plan) (rw (few_steps, h.plan.moments, h.plan.rising) refl) steps)
+    (and_from _ _ h.plan.numbers (eq-eqb _ _ h.plan.counted)) in
     let few_sessions : nat_le (length d.sessions) 64 ≡ true = le-leb _ _ h.sessions.few in
     let none = h.script.none (whole_place d.place inner.0) in
     let sessions = all-good d.named d.caches (members (scenario d)) d.sessions fits h.sessions.each in
     let kinds = last_objects d.sessions d.session none h.objects.agree in
     let said : good_sessions (scenario d) ≡ true =
-        and_from _ _ (and_from _ _ (and_from _ (list_all (good_session d.caches (members (scenario d))) d.sessions) few_sessions sessions) h.sessions.distinct) kinds in
+    and_from _ _ (and_from _ _ (and_from _ (list_all (good_session d.caches (members (scenario d))) d.sessions) few_sessions sessions) h.sessions.distinct) kinds in
     and_from _ (good_sessions (scenario d)) (and_from _ (good_plan (scenario d)) (and_from _ (good_nodes (scenario d)) caches nodes) plan) said
 
 -- the nodes that a text names
@@ -218,6 +218,7 @@ finished-good n d h m = pass (finished d) (rule_then Good (is_whole d) Missing _
     pass : (r : Result Scenario Cause) → Holds Good r → Holds Good (at_line n r)
     pass (Ok s) g = g
     pass (Err cause) g = tt
+
     no_more : {b : Bool} → (b || false) ≡ true → b ≡ true
     no_more {b} e = or_elim b false e (λ x. x) (λ x. cc)
 

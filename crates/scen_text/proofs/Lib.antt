@@ -1,6 +1,7 @@
 pub mod Cuts
 pub mod Few
 pub mod GoodDrafts
+mod GoodExamples
 pub mod GoodKept
 pub mod GoodCaches
 pub mod GoodLines

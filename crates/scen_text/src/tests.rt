@@ -173,19 +173,29 @@ fn says_what_runs(rt: HostRuntime) -> Result<(), Fail> {
     Ok(())
 }
 
+/// An item as a text of this scenario has it.
+fn item_text(alloc: Global, text: &[u8], item: &Item) -> Result<Vec<u8>, Fail> {
+    let scenario = read_scenario(alloc, text)?;
+    let mut out = TextOut::new(alloc);
+    write_item(&mut out, &scenario, item)?;
+    Ok(out.into_vec())
+}
+
 #[test]
 fn prints_items(rt: HostRuntime) -> Result<(), Fail> {
-    let key = Key::read(b"k1")?;
-    let value = Value::read(b"a:b")?;
-    let first = read_scenario(rt.alloc(), FIRST)?;
-    let second = read_scenario(rt.alloc(), SECOND)?;
-    let mut out = TextOut::new(rt.alloc());
-    write_item(&mut out, &first, &Item::Plain(Command::Put(key, value)))?;
-    out.byte(b'\n')?;
-    write_item(&mut out, &second, &Item::Offer(key, value))?;
+    let put = Item::Plain(Command::Put(Key::read(b"k1")?, Value::read(b"a:b")?));
+    let offer = Item::Offer(Key::read(b"k1")?, Value::read(b"a:b")?);
     assert_eq!(rt;
-        out.into_vec().as_slice(),
-        b"put k1 a:b\noffer c/k1 a:b".as_slice()
+        item_text(rt.alloc(), FIRST, &put)?.as_slice(),
+        b"put k1 a:b".as_slice()
+    );
+    assert_eq!(rt;
+        item_text(rt.alloc(), SECOND, &put)?.as_slice(),
+        b"put c/k1 a:b".as_slice()
+    );
+    assert_eq!(rt;
+        item_text(rt.alloc(), SECOND, &offer)?.as_slice(),
+        b"offer c/k1 a:b".as_slice()
     );
     Ok(())
 }
