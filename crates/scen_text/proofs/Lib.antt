@@ -1,4 +1,5 @@
 pub mod Cuts
+mod Examples
 pub mod Few
 pub mod GoodDrafts
 mod GoodExamples
