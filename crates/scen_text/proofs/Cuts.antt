@@ -27,6 +27,12 @@ place_some p xs n h =
     let parts = cond_some (ltb (position_or_len p xs) (length xs)) (position_or_len p xs) n h in
     (ltb-true _ _ parts.0, parts.1)
 
+-- the same of a list of anything
+pub place_some_of : {A : Type 0} (p : A → Bool) (xs : List A) (n : ℕ) → position p xs ≡ Some n → (position_or_len p xs < length xs) × (position_or_len p xs ≡ n)
+place_some_of p xs n h =
+    let parts = cond_some (ltb (position_or_len p xs) (length xs)) (position_or_len p xs) n h in
+    (ltb-true _ _ parts.0, parts.1)
+
 -- where no element passes the test, the list is the one part
 pub split_whole : (p : ℕ → Bool) (xs : List ℕ) → length xs ≤ position_or_len p xs → slice_split p xs ≡ xs ∷ []
 split_whole p [] h = refl

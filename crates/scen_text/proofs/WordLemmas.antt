@@ -38,6 +38,14 @@ value_small bs i few h l =
     let most : 10 ^ length (take i bs) ≤ 10 ^ 6 = pow-le-pow_right (lit< tt) long in
     omega (arith, below, most)
 
+-- less than 19 digits spell less than a million of millions of millions
+pub value_small_long : (bs : List ℕ) (i : ℕ) → length bs ≤ 19 → list_all is_digit bs ≡ true → i < length bs → digits_value 10 (take i bs) < 1000000000000000000
+value_small_long bs i few h l =
+    let below : digits_value 10 (take i bs) < 10 ^ length (take i bs) = digits_value-lt 10 (take i bs) (digits_in_front bs i h) in
+    let long : length (take i bs) ≤ 18 = omega (arith, length-take-le i bs (omega arith)) in
+    let most : 10 ^ length (take i bs) ≤ 10 ^ 18 = pow-le-pow_right (lit< tt) long in
+    omega (arith, below, most)
+
 -- one more digit
 pub value_more : (bs : List ℕ) (i : ℕ) → list_all is_digit bs ≡ true → i < length bs → digits_value 10 (take (i + 1) bs) ≡ digits_value 10 (take i bs) * 10 + (get_or bs i 0 - 48)
 value_more bs i h l =

@@ -1,6 +1,14 @@
 pub mod Causes
+pub mod Drafts
+pub mod Forms
 pub mod Items
+pub mod Keywords
+pub mod Known
+pub mod Limits
 pub mod Meaning
 pub mod Places
+pub mod Plans
+pub mod Printing
 pub mod Reading
+pub mod Runnable
 pub mod Words

@@ -1,42 +1,51 @@
--- What a line of a scenario means.
-use Rattle.std.specs.Prelude.{ℕ, Bool, false, ◌==◌, not, List, [], ◌∷◌, codes, bytes_eq, Option, Some, None, Result, Ok, Err, if◌then◌else◌}
+-- What a line of a scenario means, by its words alone: the places of lines and the limits are not looked at here.
+use Rattle.std.specs.Prelude.{ℕ, Bool, true, false, ◌==◌, not, List, [], ◌∷◌, codes, bytes_eq, Option, Some, None, Result, Ok, Err, if◌then◌else◌}
 use Rattle.std.specs.Str.{is_utf8}
 use Rattle.ignite_types.specs.declared.scenario.Mode.TheVariants.{Pessimistic}
 use Rattle.ignite_types.specs.declared.scenario.Command.TheVariants as command
-use Rattle.ignite_types.specs.declared.scenario.Item.TheVariants.{Plain}
 use Rattle.scen_text.specs.declared.cause.Cause.{Cause}
-use Rattle.scen_text.specs.declared.cause.Cause.TheVariants.{NotYet}
-use Rattle.scen_text.specs.declared.line.Keyword.{Keyword}
-use Rattle.scen_text.specs.declared.line.Keyword.TheVariants as keyword
+use Rattle.scen_text.specs.declared.cause.Cause.TheVariants.{NotUtf8, UnknownWord, Syntax}
+use Rattle.scen_text.specs.declared.keyword.Keyword.{Keyword}
+use Rattle.scen_text.specs.declared.keyword.Keyword.TheVariants as keyword
 use Rattle.scen_text.specs.declared.line.Line.{Line}
 use Rattle.scen_text.specs.declared.line.Line.TheVariants as line
+use Rattle.scen_text.specs.declared.line.Setting.{Setting}
+use Rattle.scen_text.specs.declared.line.Setting.TheVariants.{Parts, Backups, Near}
+use Rattle.scen_text.specs.declared.line.Verb.{Verb}
+use Rattle.scen_text.specs.declared.line.Verb.TheVariants as verb
 use Rattle.scen_text.specs.Causes.{◌>>=◌}
-use Rattle.scen_text.specs.Words.{words, only_word, two_words, number, node, name, key, value}
+use Rattle.scen_text.specs.Keywords.{keyword_of}
+use Rattle.scen_text.specs.Forms.{cache_words, node, mode, key_words, object_words}
+use Rattle.scen_text.specs.Plans.{plan_line}
+use Rattle.scen_text.specs.Words.{words, only_word, two_words, number, name, value, integer}
 
--- the keyword that a word is
-abbrev pub keyword_of : List ℕ → Option Keyword
-keyword_of word =
-    if bytes_eq word (codes "scenario") then Some keyword.Scenario
-    else (if bytes_eq word (codes "server") then Some keyword.Server
-    else (if bytes_eq word (codes "session") then Some keyword.Session
-    else (if bytes_eq word (codes "begin") then Some keyword.Begin
-    else (if bytes_eq word (codes "get") then Some keyword.Get
-    else (if bytes_eq word (codes "put") then Some keyword.Put
-    else (if bytes_eq word (codes "commit") then Some keyword.Commit
-    else (if bytes_eq word (codes "end") then Some keyword.End else None)))))))
+abbrev pub format_of : List ℕ → Result ℕ Cause
+format_of word = if bytes_eq word (codes "1") then Ok 1 else (if bytes_eq word (codes "2") then Ok 2 else Err Syntax)
 
--- `scenario 1`, by the words behind the first, as the definitions below
+-- `scenario 1` or `scenario 2`, by the words behind the first, as the definitions below
 abbrev pub head_line : List (List ℕ) → Result Line Cause
 head_line rest = do
-  format ← only_word rest
-  if bytes_eq format (codes "1") then Ok line.Head else Err NotYet
+  word ← only_word rest
+  format ← format_of word
+  Ok (line.Head format)
 
--- `server N`
-abbrev pub server_line : List (List ℕ) → Result Line Cause
-server_line rest = do
+-- `parts N`, `backups N` or `near N`
+abbrev pub setting_line : Setting → List (List ℕ) → Result Line Cause
+setting_line setting rest = do
+  word ← only_word rest
+  n ← number word
+  Ok (line.Setting setting n)
+
+-- `cache NAME P B R` or `data NAME P B R`
+abbrev pub cache_line : Bool → List (List ℕ) → Result Line Cause
+cache_line is_data rest = cache_words rest >>= λ cache. Ok (line.Cache is_data cache)
+
+-- `server N` or `client N`
+abbrev pub member_line : Bool → List (List ℕ) → Result Line Cause
+member_line server rest = do
   word ← only_word rest
   n ← node word
-  Ok (line.Server (record { 0 = n }))
+  Ok (line.Member (record { node = n; server = server }))
 
 -- `session NAME N`
 abbrev pub session_line : List (List ℕ) → Result Line Cause
@@ -44,65 +53,120 @@ session_line rest = do
   found ← two_words rest
   called ← name found.0
   n ← node found.1
-  Ok (line.Session called (record { 0 = n }))
-
--- a transaction that locks at each first access and has no timeout
-abbrev pub plain_begin : Line
-plain_begin = line.Command (Plain (command.Begin Pessimistic 0))
+  Ok (line.Session called n)
 
 -- the timeout behind a mode, 0 where none is written
-abbrev pub timeout_of : List (List ℕ) → Result ℕ Cause
-timeout_of [] = Ok 0
-timeout_of (word ∷ []) = number word
-timeout_of _ = Err NotYet
+abbrev pub timeout : List (List ℕ) → Result ℕ Cause
+timeout [] = Ok 0
+timeout (word ∷ []) = number word
+timeout _ = Err Syntax
 
--- `begin`, `begin pessimistic` and `begin pessimistic 0`
+-- `begin`, `begin MODE` or `begin MODE T`
 abbrev pub begin_line : List (List ℕ) → Result Line Cause
-begin_line [] = Ok plain_begin
-begin_line (mode ∷ rest) = if bytes_eq mode (codes "pessimistic") then (timeout_of rest >>= λ timeout. if timeout == 0 then Ok plain_begin else Err NotYet) else Err NotYet
+begin_line [] = Ok (line.Bare (command.Begin Pessimistic 0))
+begin_line (word ∷ more) = do
+  m ← mode word
+  t ← timeout more
+  Ok (line.Bare (command.Begin m t))
 
--- `get K`
-abbrev pub get_line : List (List ℕ) → Result Line Cause
-get_line rest = do
+-- `sleep M`
+abbrev pub sleep_line : List (List ℕ) → Result Line Cause
+sleep_line rest = do
   word ← only_word rest
-  k ← key word
-  Ok (line.Command (Plain (command.Get k)))
-
--- `put K V`
-abbrev pub put_line : List (List ℕ) → Result Line Cause
-put_line rest = do
-  found ← two_words rest
-  k ← key found.0
-  v ← value found.1
-  Ok (line.Command (Plain (command.Put k v)))
+  moments ← number word
+  Ok (line.Bare (command.Sleep moments))
 
 -- a line of one word, which means this
 abbrev pub bare_line : Line → List (List ℕ) → Result Line Cause
 bare_line l [] = Ok l
-bare_line l _ = Err NotYet
+bare_line l _ = Err Syntax
+
+-- `get K` and `remove K`
+abbrev pub key_line : ℕ → Verb → List (List ℕ) → Result Line Cause
+key_line format v rest = do
+  word ← only_word rest
+  k ← key_words format word
+  Ok (line.Keyed v k)
+
+-- `put K V`
+abbrev pub key_value_line : ℕ → List (List ℕ) → Result Line Cause
+key_value_line format rest = do
+  found ← two_words rest
+  k ← key_words format found.0
+  v ← value found.1
+  Ok (line.Keyed (verb.Put v) k)
+
+-- `add K I`
+abbrev pub key_integer_line : ℕ → List (List ℕ) → Result Line Cause
+key_integer_line format rest = do
+  found ← two_words rest
+  k ← key_words format found.0
+  i ← integer found.1
+  Ok (line.Keyed (verb.Add i) k)
+
+-- `next O` and `poll O`
+abbrev pub object_line : Verb → List (List ℕ) → Result Line Cause
+object_line v rest = do
+  word ← only_word rest
+  k ← object_words word
+  Ok (line.Keyed v k)
+
+-- `offer O V`
+abbrev pub object_value_line : List (List ℕ) → Result Line Cause
+object_value_line rest = do
+  found ← two_words rest
+  k ← object_words found.0
+  v ← value found.1
+  Ok (line.Keyed (verb.Offer v) k)
+
+-- `incr O I`
+abbrev pub object_integer_line : List (List ℕ) → Result Line Cause
+object_integer_line rest = do
+  found ← two_words rest
+  k ← object_words found.0
+  i ← integer found.1
+  Ok (line.Keyed (verb.Incr i) k)
 
 -- what a line means by its keyword and the words behind it
-abbrev pub meant : Option Keyword → List (List ℕ) → Result Line Cause
-meant None rest = Err NotYet
-meant (Some keyword.Scenario) rest = head_line rest
-meant (Some keyword.Server) rest = server_line rest
-meant (Some keyword.Session) rest = session_line rest
-meant (Some keyword.Begin) rest = begin_line rest
-meant (Some keyword.Get) rest = get_line rest
-meant (Some keyword.Put) rest = put_line rest
-meant (Some keyword.Commit) rest = bare_line (line.Command (Plain command.Commit)) rest
-meant (Some keyword.End) rest = bare_line line.End rest
+abbrev pub meant : ℕ → Keyword → List (List ℕ) → Result Line Cause
+meant format keyword.Scenario rest = head_line rest
+meant format keyword.Parts rest = setting_line Parts rest
+meant format keyword.Backups rest = setting_line Backups rest
+meant format keyword.Near rest = setting_line Near rest
+meant format keyword.Cache rest = cache_line false rest
+meant format keyword.Data rest = cache_line true rest
+meant format keyword.Server rest = member_line true rest
+meant format keyword.Client rest = member_line false rest
+meant format keyword.Plan rest = plan_line format rest
+meant format keyword.Session rest = session_line rest
+meant format keyword.End rest = bare_line line.End rest
+meant format keyword.Begin rest = begin_line rest
+meant format keyword.Get rest = key_line format verb.Get rest
+meant format keyword.Put rest = key_value_line format rest
+meant format keyword.Remove rest = key_line format verb.Remove rest
+meant format keyword.Add rest = key_integer_line format rest
+meant format keyword.Commit rest = bare_line (line.Bare command.Commit) rest
+meant format keyword.Rollback rest = bare_line (line.Bare command.Rollback) rest
+meant format keyword.Sleep rest = sleep_line rest
+meant format keyword.Incr rest = object_integer_line rest
+meant format keyword.Next rest = object_line verb.Next rest
+meant format keyword.Offer rest = object_value_line rest
+meant format keyword.Poll rest = object_line verb.Poll rest
+
+abbrev pub known : ℕ → Option Keyword → List (List ℕ) → Result Line Cause
+known format (Some word) rest = meant format word rest
+known format None rest = Err UnknownWord
 
 -- what the words of a line mean: nothing where there are none
-abbrev pub meaning : List (List ℕ) → Result Line Cause
-meaning [] = Ok line.Blank
-meaning (first ∷ rest) = meant (keyword_of first) rest
+abbrev pub meaning : ℕ → List (List ℕ) → Result Line Cause
+meaning format [] = Ok line.Blank
+meaning format (first ∷ rest) = known format (keyword_of format first) rest
 
 -- a remark begins with `#`
 abbrev pub is_remark : List ℕ → Bool
 is_remark [] = false
 is_remark (byte ∷ bytes) = byte == 35
 
--- what a line means
-abbrev pub line_of : List ℕ → Result Line Cause
-line_of bytes = if not (is_utf8 bytes) then Err NotYet else (if is_remark bytes then Ok line.Blank else meaning (words bytes))
+-- what a line of a text of this format means
+abbrev pub line_of : ℕ → List ℕ → Result Line Cause
+line_of format bytes = if not (is_utf8 bytes) then Err NotUtf8 else (if is_remark bytes then Ok line.Blank else meaning format (words bytes))

@@ -2,39 +2,120 @@
 
 ghost use Rattle.std.specs.Prelude.{◌≡◌, ◌++◌, codes, decimal, IfOk, Some};
 ghost use Rattle.scen_text.specs.declared.cause.LineFault.TheVariants as fault;
-ghost use Rattle.scen_text.specs.Causes.{cause_text, refusal_text};
+ghost use Rattle.scen_text.specs.Causes.{what_text, cause_text, past_text, refusal_text, rule, fit};
 
 use crate::text_out::TextOut;
 use ignite_types::{Mem, NoMemory};
 use std::alloc::Global;
 use std::fmt;
 
+/// What is past its limit: a number of a line that begins with this word, or a text, a moment or a count.
+#[derive(Clone, Copy, Debug, PartialEq, Eq)]
+pub enum What {
+    Parts,
+    Backups,
+    Near,
+    Server,
+    Client,
+    Cache,
+    Data,
+    Plan,
+    Session,
+    Begin,
+    Sleep,
+    Key,
+    Value,
+    Name,
+    Moment,
+    Commands,
+    Nodes,
+    Steps,
+    Sessions,
+    Caches,
+}
+
 /// What is wrong with a text.
 #[derive(Clone, Copy, Debug, PartialEq, Eq)]
 pub enum Cause {
-    /// It is no text of the forms that are read so far.
-    NotYet,
     /// It has too many bytes.
     TooLong,
+    /// A line is no UTF-8.
+    NotUtf8,
+    /// The first word of a line begins no line of the text's format.
+    UnknownWord,
+    /// A line may not stand where it stands, or has a word too many, a word too few or one of another form.
+    Syntax,
+    /// A number, a length or a count is past its limit.
+    Limit(What),
+    /// A step or a session names a node that no line and no join step names.
+    NoSuchNode,
+    /// A command or a stop step names a cache that no line before it names.
+    NoSuchCache,
+    /// A node, a session or a cache has a name that was given before, or a cache is stopped twice.
+    DoubleName,
+    /// The first line, a cache, a server or an `end` is not there.
+    Missing,
+    /// It is a scenario, of a form that is not run yet. The reader never answers this.
+    NotYet,
 }
 
-impl Cause {
-    /// The cause in words.
-    pub fn text(self) -> &'static str
-        ensures { result.now ≡ cause_text self }
+impl What {
+    /// The word that names it.
+    fn text(self) -> &'static str
+        ensures { result.now ≡ what_text self }
     {
         match self {
-            Cause::NotYet => "not yet",
-            Cause::TooLong => "too long",
+            What::Parts => "parts",
+            What::Backups => "backups",
+            What::Near => "near",
+            What::Server => "server",
+            What::Client => "client",
+            What::Cache => "cache",
+            What::Data => "data",
+            What::Plan => "plan",
+            What::Session => "session",
+            What::Begin => "begin",
+            What::Sleep => "sleep",
+            What::Key => "key",
+            What::Value => "value",
+            What::Name => "name",
+            What::Moment => "moment",
+            What::Commands => "commands",
+            What::Nodes => "nodes",
+            What::Steps => "steps",
+            What::Sessions => "sessions",
+            What::Caches => "caches",
         }
     }
 }
 
-impl fmt::Display for Cause {
-    ghost output = { λ cause. Some (cause_text cause) };
+impl Cause {
+    /// The cause in words; a limit without the word that names it.
+    fn text(self) -> &'static str
+        ensures { result.now ≡ cause_text self }
+    {
+        match self {
+            Cause::TooLong => "too long",
+            Cause::NotUtf8 => "not utf-8",
+            Cause::UnknownWord => "unknown word",
+            Cause::Syntax => "syntax",
+            Cause::Limit(_) => "limit ",
+            Cause::NoSuchNode => "no such node",
+            Cause::NoSuchCache => "no such cache",
+            Cause::DoubleName => "double name",
+            Cause::Missing => "missing",
+            Cause::NotYet => "not yet",
+        }
+    }
 
-    fn fmt<W: fmt::Write>(&self, f: &mut fmt::Formatter<W>) -> fmt::Result {
-        f.write_str(self.text())
+    /// What is past its limit, as a word; nothing where no limit is broken.
+    fn past(self) -> &'static str
+        ensures { result.now ≡ past_text self }
+    {
+        match self {
+            Cause::Limit(what) => what.text(),
+            _ => "",
+        }
     }
 }
 
@@ -69,6 +150,23 @@ impl From<Cause> for LineFault {
     }
 }
 
+/// A rule that a line must keep, or the cause of its refusal.
+pub fn rule(holds: bool, cause: Cause) -> Result<(), Cause>
+    ensures { result ≡ rule holds cause }
+{
+    if holds { Ok(()) } else { Err(cause) }
+}
+
+/// What was read of a word, which is nothing where the word is past its limit.
+pub fn fit<T: Copy>(read: Option<T>, what: What) -> Result<T, Cause>
+    ensures { result ≡ fit read what }
+{
+    match read {
+        Some(x) => Ok(x),
+        None => Err(Cause::Limit(what)),
+    }
+}
+
 /// The line in which a program says that it refuses its input.
 pub fn refusal_line(alloc: Global, line: u32, cause: Cause) -> Mem<Vec<u8>>
     ensures { IfOk result (λ bytes. bytes.items ≡ refusal_text line cause) }
@@ -78,6 +176,7 @@ pub fn refusal_line(alloc: Global, line: u32, cause: Cause) -> Mem<Vec<u8>>
     out.number(u64::from(line))?;
     out.text(": ")?;
     out.text(cause.text())?;
+    out.text(cause.past())?;
     out.byte(b'\n')?;
     Ok(out.into_vec())
 }

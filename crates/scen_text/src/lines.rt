@@ -24,7 +24,7 @@ fn place_of(byte: u8, bytes: &[u8]) -> Option<usize>
 
 /// What stands before the first place of a byte, and what stands behind it.
 #[tactic(auto, using(crate::proofs::Cuts::place_none, crate::proofs::Cuts::place_some))]
-fn cut_at(byte: u8, bytes: &[u8]) -> Option<(&[u8], &[u8])>
+pub fn cut_at(byte: u8, bytes: &[u8]) -> Option<(&[u8], &[u8])>
     ensures none { IfNone result (length bytes.now ≤ position_or_len (λ b. b == byte) bytes.now) }
     ensures within { OnSome result (position_or_len (λ b. b == byte) bytes.now < length bytes.now) }
     ensures before { IfSome result (λ found. found.0.now ≡ before_first (λ b. b == byte) bytes.now) }

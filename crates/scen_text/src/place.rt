@@ -1,53 +1,128 @@
 //! How far a text was read.
 
-ghost use Rattle.std.specs.Prelude.{◌≡◌, ◌++◌, ◌∷◌, [], OnOk};
-ghost use Rattle.scen_text.specs.Places.{place_after};
+ghost use Rattle.std.specs.Prelude.{◌≡◌};
+ghost use Rattle.scen_text.specs.Places.{rank, stands, stands_once, in_script, is_outside, is_start, is_whole, place_after, place_of};
 
-use crate::cause::Cause;
-use ignite_types::{Command, Item, List, Mem};
+use crate::line::Setting;
+use ignite_types::{Command, Item};
 
-/// How far a text was read.
+/// How far a text was read: the kind of the last line that means something.
 #[derive(Clone, Copy)]
 pub enum Place {
-    /// Nothing but lines that mean nothing.
+    /// There is none.
     Start,
     /// The line of the format.
-    Format,
-    /// A node.
+    Head,
+    Parts,
+    Backups,
+    Near,
+    Caches,
+    Data,
     Nodes,
-    /// A session, with no open transaction.
-    Script,
-    /// A session, behind a `begin` and before its end.
-    Block,
-    /// A whole session.
+    Plan,
+    /// The `end` of a session.
     Sessions,
+    /// A line of a session, with no open block.
+    Script,
+    /// A line of a session, behind a `begin` and before the next `commit` or `rollback`.
+    Block,
 }
 
-/// The place behind a command of a session: a `begin` opens a block, and a `commit` closes it.
-pub fn place_after(place: Place, item: &Item) -> Result<Place, Cause>
-    ensures { result ≡ place_after place item.now }
-{
-    match place {
-        Place::Script => match item {
-            Item::Plain(Command::Begin(..)) => Ok(Place::Block),
-            Item::Plain(Command::Commit) => Err(Cause::NotYet),
-            _ => Ok(Place::Script),
-        },
-        Place::Block => match item {
-            Item::Plain(Command::Begin(..)) => Err(Cause::NotYet),
-            Item::Plain(Command::Commit) => Ok(Place::Script),
-            _ => Ok(Place::Block),
-        },
-        _ => Err(Cause::NotYet),
+impl Place {
+    /// Its rank in the order of the lines.
+    fn rank(self) -> u32
+        ensures { result ≡ rank self }
+    {
+        match self {
+            Place::Start => 0,
+            Place::Head => 1,
+            Place::Parts => 2,
+            Place::Backups => 3,
+            Place::Near => 4,
+            Place::Caches => 5,
+            Place::Data => 6,
+            Place::Nodes => 7,
+            Place::Plan => 8,
+            Place::Sessions => 9,
+            Place::Script => 10,
+            Place::Block => 10,
+        }
+    }
+
+    /// Whether a line of the kind `next` may follow.
+    pub fn stands(self, next: Place) -> bool
+        ensures { result ≡ stands self next }
+    {
+        1 <= self.rank() && self.rank() <= next.rank()
+    }
+
+    /// Whether a line of the kind `next`, which stands once, may follow.
+    pub fn stands_once(self, next: Place) -> bool
+        ensures { result ≡ stands_once self next }
+    {
+        1 <= self.rank() && self.rank() < next.rank()
+    }
+
+    /// Whether a command may follow.
+    pub fn in_script(self) -> bool
+        ensures { result ≡ in_script self }
+    {
+        match self {
+            Place::Script | Place::Block => true,
+            _ => false,
+        }
+    }
+
+    /// Whether a data command may follow.
+    pub fn is_outside(self) -> bool
+        ensures { result ≡ is_outside self }
+    {
+        match self {
+            Place::Script => true,
+            _ => false,
+        }
+    }
+
+    /// Whether nothing stands before.
+    pub fn is_start(self) -> bool
+        ensures { result ≡ is_start self }
+    {
+        match self {
+            Place::Start => true,
+            _ => false,
+        }
+    }
+
+    /// Whether a text may end here: behind its first line and in no session.
+    pub fn is_whole(self) -> bool
+        ensures { result ≡ is_whole self }
+    {
+        match self {
+            Place::Start | Place::Script | Place::Block => false,
+            _ => true,
+        }
+    }
+
+    /// The place behind a command: a `begin` opens a block, and a `commit` or a `rollback` closes it.
+    pub fn after(self, item: &Item) -> Place
+        ensures { result ≡ place_after self item.now }
+    {
+        match item {
+            Item::Plain(Command::Begin(..)) => Place::Block,
+            Item::Plain(Command::Commit) => Place::Script,
+            Item::Plain(Command::Rollback) => Place::Script,
+            _ => self,
+        }
     }
 }
 
-/// Adds a command.
-pub fn push_item(commands: &mut List<Item>, item: &Item) -> Mem<()>
-    ensures { OnOk result (commands.new ≡ commands.old ++ item.now ∷ []) }
+/// The kind of a setting's line.
+pub fn place_of(setting: Setting) -> Place
+    ensures { result ≡ place_of setting }
 {
-    match item {
-        Item::Plain(command) => commands.push(Item::Plain(*command)),
-        _ => commands.push(*item),
+    match setting {
+        Setting::Parts => Place::Parts,
+        Setting::Backups => Place::Backups,
+        Setting::Near => Place::Near,
     }
 }

@@ -1,158 +1,201 @@
-use crate::{Cause, ReadFault, TextOut, read_scenario, refusal_line, write_item};
-use ignite_types::{Cache, Command, Item, Key, List, Member, Mode, NodeId, Scenario, Value};
+use crate::{
+    Cause, ReadFault, TextOut, not_yet, print_scenario, read_scenario, refusal_line, write_item,
+};
+use ignite_types::{Command, Item, Key, Value};
 use std::alloc::Global;
 use std::test::Fail;
 
-const EXAMPLE: &[u8] = b"scenario 1\nserver 1\nsession A 1\nbegin\nput a 1\ncommit\nget a\nend\n";
-
-/// The same with a remark, blanks, carriage returns, leading zeros, a written mode, and no last line feed.
-const LOOSE: &[u8] =
-    b"# row 1\r\n\r\n scenario   1\r\n   \nserver 0000001\r\nsession A 01 \n begin pessimistic 000\n put  a 1\ncommit\nget a\r\nend";
-
-#[test]
-fn reads_the_example(rt: HostRuntime) -> Result<(), Fail> {
-    for text in [EXAMPLE, LOOSE] {
-        let scenario = read_scenario(rt.alloc(), text)?;
-        assert_eq!(rt; scenario.format, 1);
-        assert_eq!(rt; scenario.caches.len(), 1);
-        let cache = scenario.caches.get(0).ok_or("no cache")?;
-        assert_eq!(rt; cache.name.as_slice(), b"default".as_slice());
-        assert_eq!(rt; (cache.parts, cache.backups, cache.near), (1024, 0, 0));
-        assert_eq!(rt; (cache.first, cache.data), (true, false));
-        let member = Member {
-            node: NodeId(1),
-            server: true,
-        };
-        assert_eq!(rt; scenario.nodes.as_slice(), [member].as_slice());
-        assert_eq!(rt; scenario.plan.len(), 0);
-        assert_eq!(rt; scenario.sessions.len(), 1);
-        let session = scenario.sessions.get(0).ok_or("no session")?;
-        assert_eq!(rt; session.name.as_slice(), b"A".as_slice());
-        assert_eq!(rt; session.node, NodeId(1));
-        let key = Key::read(b"a")?;
-        let commands = [
-            Command::Begin(Mode::Pessimistic, 0),
-            Command::Put(key, Value::read(b"1")?),
-            Command::Commit,
-            Command::Get(key),
-        ];
-        assert_eq!(rt; session.commands.len(), commands.len());
-        for (item, command) in session.commands.as_slice().iter().zip(&commands) {
-            assert_eq!(rt; *item, Item::Plain(*command));
-        }
-    }
-    Ok(())
-}
-
-fn cause_of(alloc: Global, text: &[u8]) -> Result<Cause, &'static str> {
+/// The line that refuses a text.
+fn refusal(alloc: Global, text: &[u8]) -> Result<Vec<u8>, Fail> {
     match read_scenario(alloc, text) {
-        Ok(_) => Err("it was read"),
-        Err(ReadFault::Refused { line: 0, cause }) => Ok(cause),
-        Err(_) => Err("another refusal"),
+        Ok(_) => Err("it was read")?,
+        Err(ReadFault::Refused { line, cause }) => Ok(refusal_line(alloc, line, cause)?),
+        Err(ReadFault::NoMemory) => Err("no memory")?,
     }
+}
+
+/// The canonical text of a scenario's text.
+fn printed(alloc: Global, text: &[u8]) -> Result<Vec<u8>, Fail> {
+    let scenario = read_scenario(alloc, text)?;
+    Ok(print_scenario(alloc, &scenario)?)
 }
 
 #[test]
-fn refuses(rt: HostRuntime) -> Result<(), Fail> {
-    let texts: [&[u8]; 12] = [
-        b"",
-        b"scenario 2\nserver 1\nsession A 1\nend\n",
-        b"scenario 1\nserver 1\nsession A 1\nget a\n",
-        b"scenario 1\nserver 1\nsession A 1\nget a\nen",
-        b"scenario 1\nserver 1 1\nsession A 1\nend\n",
-        b"scenario 1\nserver 1\nsession A 2\nend\n",
-        b"scenario 1\nserver 0\nsession A 0\nend\n",
-        b"scenario 1\nserver 100\nsession A 100\nend\n",
-        b"scenario 1\nserver 1\nsession A 1\nbegin\nend\n",
-        b"scenario 1\nserver 1\nsession A 1\nbegin pessimistic 7\ncommit\nend\n",
-        b"scenario 1\nserver 1\nsession A 1\nend\n# \xff\n",
-        b"scenario 1\nserver 1\nsession A 1\nend\r",
+fn refuses_lines(rt: HostRuntime) -> Result<(), Fail> {
+    let table: [(&[u8], &[u8]); 9] = [
+        (b"", b"refused line 1: missing\n"),
+        (b"scenario 1\n\xff\n", b"refused line 2: not utf-8\n"),
+        (
+            b"scenario 1\nserver 1\nserver 1\n",
+            b"refused line 3: double name\n",
+        ),
+        (
+            b"scenario 1\nserver 100\n",
+            b"refused line 2: limit server\n",
+        ),
+        (
+            b"scenario 1\nnear 10001\nserver 1\n",
+            b"refused line 2: limit near\n",
+        ),
+        (
+            b"scenario 1\nserver 1\nsession A 5\n",
+            b"refused line 3: no such node\n",
+        ),
+        (
+            b"scenario 1\nserver 1\nplan 5 lose 1\nplan 4 lose 1\n",
+            b"refused line 4: limit moment\n",
+        ),
+        (b"scenario 2\nserver 1\n", b"refused line 3: missing\n"),
+        (b"scenario 3\nfly 1\n", b"refused line 1: syntax\n"),
     ];
-    for text in texts {
-        assert_eq!(rt; cause_of(rt.alloc(), text)?, Cause::NotYet, "{text:?}");
+    for (text, said) in table {
+        assert_eq!(rt; refusal(rt.alloc(), text)?.as_slice(), said);
     }
-    let mut spaces = vec![in rt.alloc(); b' '; 1_048_576]?;
-    assert_eq!(rt; cause_of(rt.alloc(), &spaces)?, Cause::NotYet);
-    spaces.push(b' ')?;
-    assert_eq!(rt; cause_of(rt.alloc(), &spaces)?, Cause::TooLong);
-    let line = refusal_line(rt.alloc(), 0, Cause::TooLong)?;
-    assert_eq!(rt; line.as_slice(), b"refused line 0: too long\n".as_slice());
     Ok(())
 }
 
-/// A scenario of a format, with one cache `c`.
-fn scenario(alloc: Global, format: u32) -> Result<Scenario, Fail> {
-    let mut caches = List::new(alloc);
-    caches.push(Cache {
-        name: List::from_slice(alloc, b"c")?,
-        parts: 1024,
-        backups: 0,
-        near: 0,
-        first: true,
-        data: false,
-    })?;
-    Ok(Scenario {
-        format,
-        caches,
-        nodes: List::new(alloc),
-        plan: List::new(alloc),
-        sessions: List::new(alloc),
-    })
+#[test]
+fn refuses_commands(rt: HostRuntime) -> Result<(), Fail> {
+    let table: [(&[u8], &[u8]); 6] = [
+        (
+            b"scenario 1\nserver 1\nsession A 1\nget aaaaaaaaaabbbbbbbbbbccccccccccddd\n",
+            b"refused line 4: limit key\n",
+        ),
+        (
+            b"scenario 1\nserver 1\nsession A 1\nadd a 007\n",
+            b"refused line 4: syntax\n",
+        ),
+        (
+            b"scenario 1\nserver 1\nsession A 1\nadd a -0\n",
+            b"refused line 4: syntax\n",
+        ),
+        (
+            b"scenario 1\nserver 1\nsession A 1\nput a",
+            b"refused line 4: syntax\n",
+        ),
+        (
+            b"scenario 1\nserver 1\nsession A 1\nput a 1\n",
+            b"refused line 5: missing\n",
+        ),
+        (
+            b"scenario 1\nserver 1\nsession A 1\nput a 1\nget a\nend\nfly\n",
+            b"refused line 7: unknown word\n",
+        ),
+    ];
+    for (text, said) in table {
+        assert_eq!(rt; refusal(rt.alloc(), text)?.as_slice(), said);
+    }
+    Ok(())
+}
+
+#[test]
+fn refuses_caches(rt: HostRuntime) -> Result<(), Fail> {
+    let table: [(&[u8], &[u8]); 5] = [
+        (
+            b"scenario 2\ncache c 1 0 0\ndata d 1 0 0\nserver 1\nsession A 1\nput d/n 1\n",
+            b"refused line 6: syntax\n",
+        ),
+        (
+            b"scenario 2\ncache c 1 0 0\nserver 1\nsession A 1\nget x/a\n",
+            b"refused line 5: no such cache\n",
+        ),
+        (
+            b"scenario 2\ncache c 1 0 0\nserver 1\nplan 5 stop c\n",
+            b"refused line 4: syntax\n",
+        ),
+        (
+            b"scenario 2\ncache c 1 0 0\ncache e 1024 0 0\n",
+            b"refused line 3: limit caches\n",
+        ),
+        (
+            b"scenario 2\ncache c 1 0 0\ncache c 0 0 0\n",
+            b"refused line 3: limit cache\n",
+        ),
+    ];
+    for (text, said) in table {
+        assert_eq!(rt; refusal(rt.alloc(), text)?.as_slice(), said);
+    }
+    Ok(())
+}
+
+#[test]
+fn refuses_long_texts(rt: HostRuntime) -> Result<(), Fail> {
+    let mut spaces = vec![in rt.alloc(); b' '; 1_048_576]?;
+    assert_eq!(rt;
+        refusal(rt.alloc(), &spaces)?.as_slice(),
+        b"refused line 2: missing\n".as_slice()
+    );
+    spaces.push(b' ')?;
+    assert_eq!(rt;
+        refusal(rt.alloc(), &spaces)?.as_slice(),
+        b"refused line 0: too long\n".as_slice()
+    );
+    Ok(())
+}
+
+#[test]
+fn refuses_many_commands(rt: HostRuntime) -> Result<(), Fail> {
+    let mut text = Vec::new(rt.alloc());
+    text.extend_from_slice(b"scenario 1\nserver 1\nsession A 1\n".as_slice())?;
+    for _ in 0..1001 {
+        text.extend_from_slice(b"get a\n".as_slice())?;
+    }
+    assert_eq!(rt;
+        refusal(rt.alloc(), &text)?.as_slice(),
+        b"refused line 1004: limit commands\n".as_slice()
+    );
+    Ok(())
+}
+
+/// A remark, blanks, carriage returns, leading zeros, nothing that may be left out, and no last line feed.
+const LOOSE: &[u8] =
+    b"# a run\r\n\r\n scenario   1\r\nserver 0000001\r\n  client 2\nplan 5 hold 01 3\nplan 5 join 3 server\nsession A 01 \n begin\n put  a 1\nadd a -5\ncommit\nbegin optimistic\nrollback\nsleep 2\r\nend";
+
+const FIRST: &[u8] =
+    b"scenario 1\nparts 1024\nbackups 0\nnear 0\nserver 1\nclient 2\nplan 5 hold 1 3\nplan 5 join 3 server\nsession A 1\nbegin pessimistic 0\nput a 1\nadd a -5\ncommit\nbegin optimistic 0\nrollback\nsleep 2\nend\n";
+
+const SECOND: &[u8] =
+    b"scenario 2\ncache c 64 1 16\ndata d 1 0 0\nserver 1\nplan 9 start e 2 0 0\nplan 9 stop e\nplan 10 lose 1\nsession A 1\nincr d/n 5\nnext d/s\noffer d/q x:y\npoll d/q\nget e/k.1\nremove c/a\nend\nsession B 1\nend\n";
+
+#[test]
+fn prints_what_it_read(rt: HostRuntime) -> Result<(), Fail> {
+    assert_eq!(rt; printed(rt.alloc(), LOOSE)?.as_slice(), FIRST);
+    assert_eq!(rt; printed(rt.alloc(), FIRST)?.as_slice(), FIRST);
+    assert_eq!(rt; printed(rt.alloc(), SECOND)?.as_slice(), SECOND);
+    Ok(())
+}
+
+#[test]
+fn says_what_runs(rt: HostRuntime) -> Result<(), Fail> {
+    let text = b"scenario 1\nserver 1\nsession A 1\nbegin\nput a 1\ncommit\nget a\nend\n";
+    assert!(rt; !not_yet(&read_scenario(rt.alloc(), text.as_slice())?));
+    assert!(rt; not_yet(&read_scenario(rt.alloc(), FIRST)?));
+    Ok(())
+}
+
+/// An item as a text of this scenario has it.
+fn item_text(alloc: Global, text: &[u8], item: &Item) -> Result<Vec<u8>, Fail> {
+    let scenario = read_scenario(alloc, text)?;
+    let mut out = TextOut::new(alloc);
+    write_item(&mut out, &scenario, item)?;
+    Ok(out.into_vec())
 }
 
 #[test]
 fn prints_items(rt: HostRuntime) -> Result<(), Fail> {
-    let key = Key::read(b"k1")?;
-    let lacking = Key::in_cache(1, b"k2")?;
-    let value = Value::read(b"a:b")?;
-    let table = [
-        (
-            1,
-            Command::Begin(Mode::Pessimistic, 0),
-            "begin pessimistic 0",
-        ),
-        (1, Command::Begin(Mode::Optimistic, 7), "begin optimistic 7"),
-        (1, Command::Get(key), "get k1"),
-        (2, Command::Get(key), "get c/k1"),
-        (2, Command::Remove(lacking), "remove k2"),
-        (1, Command::Put(key, value), "put k1 a:b"),
-        (
-            2,
-            Command::Add(key, -9223372036854775808),
-            "add c/k1 -9223372036854775808",
-        ),
-        (1, Command::Add(key, 5), "add k1 5"),
-        (1, Command::Commit, "commit"),
-        (1, Command::Rollback, "rollback"),
-        (1, Command::Sleep(1000000), "sleep 1000000"),
-        (1, Command::Close, "close"),
-    ];
-    for (format, command, text) in table {
-        let mut out = TextOut::new(rt.alloc());
-        write_item(
-            &mut out,
-            &scenario(rt.alloc(), format)?,
-            &Item::Plain(command),
-        )?;
-        assert_eq!(rt; out.into_vec().as_slice(), text.as_bytes());
-    }
-    Ok(())
-}
-
-#[test]
-fn prints_data_items(rt: HostRuntime) -> Result<(), Fail> {
-    let key = Key::read(b"k1")?;
-    let value = Value::read(b"a:b")?;
-    let table = [
-        (Item::Incr(key, -1), "incr c/k1 -1"),
-        (Item::Next(key), "next c/k1"),
-        (Item::Offer(key, value), "offer c/k1 a:b"),
-        (Item::Poll(key), "poll c/k1"),
-    ];
-    for (item, text) in table {
-        let mut out = TextOut::new(rt.alloc());
-        write_item(&mut out, &scenario(rt.alloc(), 2)?, &item)?;
-        assert_eq!(rt; out.into_vec().as_slice(), text.as_bytes());
-    }
+    let put = Item::Plain(Command::Put(Key::read(b"k1")?, Value::read(b"a:b")?));
+    let offer = Item::Offer(Key::read(b"k1")?, Value::read(b"a:b")?);
+    assert_eq!(rt;
+        item_text(rt.alloc(), FIRST, &put)?.as_slice(),
+        b"put k1 a:b".as_slice()
+    );
+    assert_eq!(rt;
+        item_text(rt.alloc(), SECOND, &put)?.as_slice(),
+        b"put c/k1 a:b".as_slice()
+    );
+    assert_eq!(rt;
+        item_text(rt.alloc(), SECOND, &offer)?.as_slice(),
+        b"offer c/k1 a:b".as_slice()
+    );
     Ok(())
 }

@@ -1,23 +1,30 @@
 //! The numbers, names, keys and values that words are.
 
-ghost use Rattle.std.specs.Prelude.{◌≡◌, ◌≤◌, ◌<◌, length, IsTrue};
-ghost use Rattle.std.specs.List.{list_all};
+ghost use Rattle.std.specs.Prelude.{◌≡◌, ◌≤◌, ◌<◌, ◌^◌, length, pos, negsuc, IfOk, IsTrue};
+ghost use Rattle.std.specs.List.{list_all, before_first, after_first};
 ghost use Rattle.std.specs.Str.Parse.{digits_value};
-ghost use Rattle.ignite_types.specs.Texts.{is_digit};
+ghost use Rattle.ignite_types.specs.Texts.{is_digit, is_key_byte, is_value_byte};
+ghost use Rattle.ignite_types.specs.Good.{is_name_byte};
 ghost use Rattle.scen_text.specs.Causes.{Gives};
-ghost use Rattle.scen_text.specs.Words.{words, only_word, two_words, is_number, number, number_within, node, is_name_byte, is_name, name, key, value};
+ghost use Rattle.scen_text.specs.Words.{words, only_word, two_words, four_words, is_number, number, name, fitting, key, object, value, is_natural, natural, below_zero, integer, at_slash};
 
 use crate::cause::Cause;
-use crate::lines::first_word;
-use ignite_types::{Key, NodeId, ShortText, Value};
+use crate::lines::{cut_at, first_word};
+use ignite_types::{Key, ShortText, TextFault, Value};
 
 /// The most digits that a number may have.
 const DIGITS: usize = 7;
 
+/// The most digits that an integer may have: those of the greatest of 64 bits.
+const INTEGER_DIGITS: usize = 19;
+
+/// The greatest integer.
+const MOST: u64 = 9_223_372_036_854_775_807;
+
 /// The most bytes that a name may have.
 pub const NAME_BYTES: usize = 16;
 
-/// A session's name.
+/// A session's or a cache's name.
 pub type Name = ShortText<NAME_BYTES>;
 
 /// The one word of a line.
@@ -26,7 +33,7 @@ pub fn only_word(line: &[u8]) -> Result<&[u8], Cause>
 {
     match first_word(line) {
         Some((word, rest)) if first_word(rest).is_none() => Ok(word),
-        _ => Err(Cause::NotYet),
+        _ => Err(Cause::Syntax),
     }
 }
 
@@ -35,10 +42,24 @@ pub fn two_words(line: &[u8]) -> Result<(&[u8], &[u8]), Cause>
     ensures { Gives (λ found. (found.0.now, found.1.now)) result (two_words (words line.now)) }
 {
     let Some((first, rest)) = first_word(line) else {
-        return Err(Cause::NotYet);
+        return Err(Cause::Syntax);
     };
     let second = only_word(rest)?;
     Ok((first, second))
+}
+
+/// The four words of a line.
+pub fn four_words(line: &[u8]) -> Result<(&[u8], &[u8], &[u8], &[u8]), Cause>
+    ensures { Gives (λ found. (found.0.now, found.1.now, found.2.now, found.3.now)) result (four_words (words line.now)) }
+{
+    let Some((first, rest)) = first_word(line) else {
+        return Err(Cause::Syntax);
+    };
+    let Some((second, rest)) = first_word(rest) else {
+        return Err(Cause::Syntax);
+    };
+    let (third, fourth) = two_words(rest)?;
+    Ok((first, second, third, fourth))
 }
 
 /// Whether the byte is a digit.
@@ -55,6 +76,20 @@ fn is_name_byte(byte: u8) -> bool
     byte.is_ascii_alphanumeric()
 }
 
+/// Whether the byte may stand in a key.
+fn is_key_byte(byte: u8) -> bool
+    ensures { result ≡ is_key_byte byte }
+{
+    is_name_byte(byte) || byte == b'_' || byte == b'.' || byte == b'-'
+}
+
+/// Whether the byte may stand in a value.
+fn is_value_byte(byte: u8) -> bool
+    ensures { result ≡ is_value_byte byte }
+{
+    is_key_byte(byte) || byte == b'+' || byte == b':' || byte == b'/'
+}
+
 /// Whether each byte is a digit.
 fn are_digits(bytes: &[u8]) -> bool
     ensures { result ≡ list_all is_digit bytes.now }
@@ -67,6 +102,20 @@ fn are_name_bytes(bytes: &[u8]) -> bool
     ensures { result ≡ list_all is_name_byte bytes.now }
 {
     bytes.iter().all(|byte| is_name_byte(*byte))
+}
+
+/// Whether each byte may stand in a key.
+fn are_key_bytes(bytes: &[u8]) -> bool
+    ensures { result ≡ list_all is_key_byte bytes.now }
+{
+    bytes.iter().all(|byte| is_key_byte(*byte))
+}
+
+/// Whether each byte may stand in a value.
+fn are_value_bytes(bytes: &[u8]) -> bool
+    ensures { result ≡ list_all is_value_byte bytes.now }
+{
+    bytes.iter().all(|byte| is_value_byte(*byte))
 }
 
 /// Whether the word is a number.
@@ -96,63 +145,139 @@ pub fn number(word: &[u8]) -> Result<u32, Cause>
     if is_number(word) {
         Ok(digits_value(word))
     } else {
-        Err(Cause::NotYet)
+        Err(Cause::Syntax)
     }
 }
 
-/// The number that a word is, from the least to the most that is allowed.
-fn number_within(least: u32, most: u32, word: &[u8]) -> Result<u32, Cause>
-    ensures { result ≡ number_within least most word.now }
-{
-    let number = number(word)?;
-    if least <= number && number <= most {
-        Ok(number)
-    } else {
-        Err(Cause::NotYet)
-    }
-}
-
-/// The node that a word names.
-pub fn node(word: &[u8]) -> Result<u32, Cause>
-    ensures { result ≡ node word.now }
-{
-    number_within(1, 99, word)
-}
-
-/// Whether the word is a name.
-fn is_name(word: &[u8]) -> bool
-    ensures { result ≡ is_name word.now }
-{
-    !word.is_empty() && word.len() <= NAME_BYTES && are_name_bytes(word)
-}
-
-/// The name that a word is.
-pub fn name(word: &[u8]) -> Result<Name, Cause>
+/// The name that a word is; nothing where it is too long.
+pub fn name(word: &[u8]) -> Result<Option<Name>, Cause>
     ensures { result ≡ name word.now }
 {
-    if is_name(word) {
-        Ok(ShortText::new(word))
+    if word.is_empty() || !are_name_bytes(word) {
+        return Err(Cause::Syntax);
+    }
+    if word.len() <= NAME_BYTES {
+        Ok(Some(ShortText::new(word)))
     } else {
-        Err(Cause::NotYet)
+        Ok(None)
     }
 }
 
-/// The key that a word is.
-pub fn key(word: &[u8]) -> Result<Key, Cause>
+/// The object that a word is, in cache 0; nothing where it is too long.
+pub fn object(word: &[u8]) -> Result<Option<Key>, Cause>
+    ensures { result ≡ object word.now }
+{
+    if word.is_empty() || !are_name_bytes(word) {
+        return Err(Cause::Syntax);
+    }
+    if word.len() <= NAME_BYTES {
+        let text = ShortText::new(word);
+        Ok(Some(Key { cache: 0, text }))
+    } else {
+        Ok(None)
+    }
+}
+
+/// What a text was read as, where it has this form; nothing where it is too long.
+fn fitting<T: Copy>(formed: bool, read: Result<T, TextFault>) -> Result<Option<T>, Cause>
+    ensures { result ≡ fitting formed read }
+{
+    match read {
+        Ok(text) => Ok(Some(text)),
+        Err(TextFault::TooLong) if formed => Ok(None),
+        Err(_) => Err(Cause::Syntax),
+    }
+}
+
+/// The key that a word is, in cache 0; nothing where it is too long.
+pub fn key(word: &[u8]) -> Result<Option<Key>, Cause>
     ensures { result ≡ key word.now }
 {
-    match Key::read(word) {
-        Ok(key) => Ok(key),
-        Err(_) => Err(Cause::NotYet),
+    fitting(are_key_bytes(word), Key::read(word))
+}
+
+/// The value that a word is; nothing where it is too long.
+pub fn value(word: &[u8]) -> Result<Option<Value>, Cause>
+    ensures { result ≡ value word.now }
+{
+    fitting(are_value_bytes(word), Value::read(word))
+}
+
+/// The word before the first slash of a word, and the one behind it.
+pub fn at_slash(word: &[u8]) -> Result<(&[u8], &[u8]), Cause>
+    ensures { Gives (λ found. (found.0.now, found.1.now)) result (at_slash word.now) }
+{
+    match cut_at(b'/', word) {
+        Some(found) => Ok(found),
+        None => Err(Cause::Syntax),
     }
 }
 
-/// The value that a word is.
-pub fn value(word: &[u8]) -> Result<Value, Cause>
-    ensures { result ≡ value word.now }
+/// Whether these are digits, few enough, and not 0 in front.
+fn is_natural(word: &[u8]) -> bool
+    ensures { result ≡ is_natural word.now }
 {
-    match Value::read(word) {
-        Ok(value) => Ok(value),
-        Err(_) => Err(Cause::NotYet),
+    match word {
+        [first, ..] => *first != b'0' && word.len() <= INTEGER_DIGITS && are_digits(word),
+        [] => false,
     }
+}
+
+/// The number that these digits spell.
+fn long_digits_value(digits: &[u8]) -> u64
+    requires few { length digits.now ≤ 19 }
+    requires digits { IsTrue (list_all is_digit digits.now) }
+    ensures { result ≡ digits_value 10 digits.now }
+{
+    let mut number: u64 = 0;
+    for digit in digits {
+        number = number * 10 + u64::from(*digit - b'0');
+    }
+    number
+}
+
+/// The number from 1 to `most` that a word is.
+fn natural(most: u64, word: &[u8]) -> Result<u64, Cause>
+    ensures number { result ≡ natural most word.now }
+    ensures within { IfOk result (λ n. n ≤ most) }
+{
+    if !is_natural(word) {
+        return Err(Cause::Syntax);
+    }
+    let number = long_digits_value(word);
+    if number <= most {
+        Ok(number)
+    } else {
+        Err(Cause::Syntax)
+    }
+}
+
+/// The number that is as far below 0 as this one is above.
+fn below_zero(number: u64) -> i64
+    requires { number ≤ 2 ^ 63 }
+    ensures { result ≡ below_zero number }
+{
+    if number == 0 {
+        0
+    } else {
+        -1 - (number - 1) as i64
+    }
+}
+
+/// The integer that a word is.
+pub fn integer(word: &[u8]) -> Result<i64, Cause>
+    ensures { result ≡ integer word.now }
+{
+    let [first, digits @ ..] = word else {
+        return Err(Cause::Syntax);
+    };
+    if word == b"0".as_slice() {
+        return Ok(0);
+    }
+    if *first == b'-' {
+        let number = natural(MOST + 1, digits)?;
+        return Ok(below_zero(number));
+    }
+    let number = natural(MOST, word)?;
+    Ok(number as i64)
 }

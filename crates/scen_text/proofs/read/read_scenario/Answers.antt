@@ -1,5 +1,6 @@
-use Rattle.scen_text.proofs.GoodLaws.{good_read}
+use Rattle.std.specs.Str.Lines.{lines}
+use Rattle.scen_text.proofs.GoodTexts.{reads-good}
 use Rattle.scen_text.proofs.read.read_scenario.Goals as goal
 
-pub returns-in-Ok-clause-good : goal.returns-in-Ok-clause-good
-returns-in-Ok-clause-good c = good_read c.args.bytes.now c.in-Ok.scenario c.in-Ok.ensures
+pub returns-clause-good : goal.returns-clause-good
+returns-clause-good c = reads-good (lines c.args.bytes.now) _ c.read_text.ensures
