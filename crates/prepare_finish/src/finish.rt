@@ -177,11 +177,7 @@ pub fn on_finish(node: &mut Node, from: NodeId, tx: TxId, commit: bool) -> Mem<(
             let backups = backups_for(here, share.shares.as_slice())?;
             commit_share(node, from, tx, top, writes.as_slice(), backups)
         }
-        (false, ShareState::Prepared) => {
-            let backups = backups_for(here, share.shares.as_slice())?;
-            undo_share(node, from, tx, backups)
-        }
-        (false, ShareState::Preparing) => {
+        (false, ShareState::Prepared | ShareState::Preparing) => {
             let backups = backups_for(here, share.shares.as_slice())?;
             undo_share(node, from, tx, backups)
         }
