@@ -14,6 +14,7 @@ use Rattle.base_words.specs.Verdicts.{is_settled, shares_named, verdict}
 use Rattle.ignite_types.specs.Good.{members}
 use Rattle.ignite_types.specs.Names.{node_cmp, same_node, same_tx, share_cmp, tx_cmp}
 use Rattle.ignite_types.specs.declared.list.List.{List}
+use Rattle.ignite_types.specs.declared.message.Message.{Message}
 use Rattle.ignite_types.specs.declared.message.Orphan.{Orphan}
 use Rattle.ignite_types.specs.declared.message.Out.{Out}
 use Rattle.ignite_types.specs.declared.names.NodeId.{NodeId}
@@ -100,6 +101,15 @@ orphans_of s = orphans_among s (standing_in s.queues) (orphan_txs s)
 
 abbrev pub new_round : ℕ → List Member → Round
 new_round place members = record { place = place; members = members; acted = false; finishes = []; backups = [] }
+
+abbrev pub orphans_message : NodeState → ℕ → Message
+orphans_message s round = msg.Orphans round (orphans_of s)
+
+abbrev pub sends_orphans : NodeState → ℕ → NodeState
+sends_orphans s round = sent_to_oldest s (orphans_message s round) (oldest_seen s)
+
+abbrev pub starts_round : NodeState → ℕ → NodeState
+starts_round s place = record s { round = Some (new_round place s.members) }
 
 -- the round before is over; this node's list goes to the oldest member
 abbrev pub begins_round : NodeState → ℕ → NodeState

@@ -1,7 +1,9 @@
 //! Rounds of recovery: each loss begins one, and the oldest member decides once it has the lists of all members.
 
 ghost use Rattle.std.specs.Prelude.{◌≡◌, ◌++◌, OnOk, IfOk};
-ghost use Rattle.act_rows.specs.Recovery.{acts_on_round, all_reported, begins_round, finish_nodes, gives_verdict, has_acted, has_locks, has_report, is_recoverer, judges, judges_each, lockers, names_of, orphan_names, orphans_row, orphans_for, orphans_of_tx, primaries_of, recovers_if_all, recovery_calm, reports_for, verdict_outs};
+ghost use Rattle.act_rows.specs.Recovery.{acts_on_round, all_reported, begins_round, finish_nodes, gives_verdict, has_acted, has_locks, has_report, is_recoverer, judges, judges_each, lockers, names_of, orphan_names, orphans_message, orphans_row, orphans_for, orphans_of_tx, primaries_of, recovers_if_all, recovery_calm, reports_for, sends_orphans, starts_round, verdict_outs};
+ghost use Rattle.ignite_types.specs.Names.{tx_cmp};
+ghost use Rattle.ordered_table.specs.Entries.{at};
 ghost use Rattle.base_words.specs.Queues.{with_members};
 
 use crate::orphans::orphans_of;
@@ -179,6 +181,16 @@ fn give_verdict(
     node.send_all(outs)
 }
 
+/// The verdict that was given in an earlier round.
+fn kept_verdict(node: &Node, tx: &TxId) -> Option<bool>
+    ensures { result ≡ at tx_cmp node.now.verdicts tx.now }
+{
+    match node.state.verdicts.get(tx) {
+        Some(commit) => Some(*commit),
+        None => None,
+    }
+}
+
 /// One transaction that was named.
 fn judge(
     node: &mut Node,
@@ -189,12 +201,14 @@ fn judge(
 ) -> Mem<()>
     ensures { OnOk result (node.new ≡ judges node.old tx members.now orphans.now lockers.now) }
 {
-    if is_settled(node.alloc, orphans)? {
-        return Ok(());
-    }
-    let kept = node.state.verdicts.get(&tx).copied();
+    let settled = is_settled(node.alloc, orphans)?;
+    let kept = kept_verdict(node, &tx);
     let commit = verdict(node.alloc, kept, orphans, members)?;
-    give_verdict(node, tx, commit, shares_named(orphans), lockers)
+    if settled {
+        Ok(())
+    } else {
+        give_verdict(node, tx, commit, shares_named(orphans), lockers)
+    }
 }
 
 fn judge_each(
@@ -268,22 +282,45 @@ pub fn on_orphans(node: &mut Node, from: NodeId, round: u64, list: List<Orphan>)
     recover_if_all(node)
 }
 
-/// A loss begins a new round: this node's list goes to the oldest member.
-pub fn begin_round(node: &mut Node, place: u64) -> Mem<()>
-    ensures { OnOk result (node.new ≡ begins_round node.old place) }
+/// This node's list for a round.
+fn orphans_message(node: &Node, round: u64) -> Mem<Message>
+    ensures { IfOk result (λ message. message ≡ orphans_message node.now round) }
 {
     let list = orphans_of(node)?;
-    let members = List::from_slice(node.alloc, node.state.members.as_slice())?;
+    Ok(Message::Orphans { round, list })
+}
+
+/// This node's list goes to the oldest member.
+fn send_orphans(node: &mut Node, round: u64) -> Mem<()>
+    ensures { OnOk result (node.new ≡ sends_orphans node.old round) }
+{
+    let message = orphans_message(node, round)?;
     let oldest = node.oldest();
-    node.state.round = Some(Round {
+    node.send_to_oldest(message, oldest)
+}
+
+/// A round after a loss, before any list came.
+fn new_round(node: &mut Node, place: u64) -> Mem<()>
+    ensures { OnOk result (node.new ≡ starts_round node.old place) }
+{
+    let members = List::from_slice(node.alloc, node.state.members.as_slice())?;
+    let round = Round {
         place,
         members,
         acted: false,
         finishes: Set::new(node.alloc),
         backups: Set::new(node.alloc),
-    });
-    let round = place;
-    node.send_to_oldest(Message::Orphans { round, list }, oldest)
+    };
+    node.state.round = Some(round);
+    Ok(())
+}
+
+/// A loss begins a new round: this node's list goes to the oldest member.
+pub fn begin_round(node: &mut Node, place: u64) -> Mem<()>
+    ensures { OnOk result (node.new ≡ begins_round node.old place) }
+{
+    new_round(node, place)?;
+    send_orphans(node, place)
 }
 
 /// Whether this node is no recoverer, or its round is settled: it has acted, and nothing is awaited.
