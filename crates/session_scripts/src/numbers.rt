@@ -4,7 +4,7 @@ ghost use Rattle.std.specs.Prelude.{◌≡◌, ◌≤◌, ◌^◌, ◌+ℤ◌, l
 ghost use Rattle.std.specs.List.{list_all};
 ghost use Rattle.std.specs.Fmt.{signed_decimal};
 ghost use Rattle.std.specs.Str.Parse.{digits_value};
-ghost use Rattle.base_words.specs.Numbers.{added, added_to, below_zero, is_natural, natural, number_of, sum_in_64};
+ghost use Rattle.base_words.specs.Numbers.{added, below_zero, is_natural, natural, number_of, sum_in_64};
 ghost use Rattle.ignite_types.specs.Texts.{is_digit};
 
 use ignite_types::{Answer, Value};
