@@ -1,14 +1,13 @@
 -- The text of a number may be a value.
 use Rattle.std.proofs.Common.{◌≡◌, ℕ, ◌+◌, ◌%◌, ◌^◌, ◌<◌, ◌≤◌, true, suc, List, [], ◌∷◌, ◌++◌, length, refl, arith, length-append, eq-eqb}
 use Rattle.std.specs.Prelude.{not, Ok, ℤ, pos, negsuc, decimal}
-use lib.Signed.{mag}
 use Rattle.std.specs.Fmt.{signed_decimal}
-use lib.Signed.{mag}
 use Rattle.std.specs.List.{prefix_len}
 use Rattle.std.proofs.lemmas.Bool.Decides.{nat_tests}
 use Rattle.std.proofs.lemmas.Fmt.{decimal_by_steps, decimal_nonempty, length-decimal-le}
 use Rattle.std.proofs.lemmas.List.Folds.{prefix_len-append}
 use Rattle.ignite_types.specs.Texts.{is_value_byte, value_of}
+use lib.Signed.{mag}
 
 abbrev allowed : List ℕ → ℕ
 allowed bs = prefix_len (λ b. not (not (is_value_byte b))) bs
