@@ -2,7 +2,7 @@
 -- given out.
 use Rattle.std.specs.Fmt.{signed_decimal}
 use Rattle.std.specs.Option.{option_and_then, option_map}
-use Rattle.std.specs.Prelude.{None, Option, Some, [], codes, decimal, drop, fold, if◌then◌else◌, int_le, nat_le, pos, slice_get, take, ℕ, ℤ, ◌&&◌, ◌++◌, ◌+ℤ◌, ◌-ℤ◌, ◌∷◌}
+use Rattle.std.specs.Prelude.{None, Option, Some, [], codes, decimal, drop, fold, if◌then◌else◌, int_le, int_lt, nat_le, pos, slice_get, take, ℕ, ℤ, ◌&&◌, ◌++◌, ◌+ℤ◌, ◌-ℤ◌, ◌∷◌}
 use Rattle.base_words.specs.Numbers.{number_of}
 use Rattle.base_words.specs.Orders.{raised}
 use Rattle.base_words.specs.declared.script.Phase.{Phase}
@@ -15,7 +15,7 @@ use Rattle.ignite_types.specs.declared.list.List.{List}
 use Rattle.ignite_types.specs.declared.scenario.Command.{Command}
 use Rattle.ignite_types.specs.declared.scenario.Item.{Item}
 use Rattle.ignite_types.specs.declared.text.Key.{Key}
-use Rattle.ordered_table.specs.Entries.{at, put}
+use Rattle.ordered_table.specs.Entries.{at, put, without}
 use Rattle.ignite_types.specs.declared.answer.Answer.TheVariants as answer
 use Rattle.ignite_types.specs.declared.scenario.Command.TheVariants as command
 use Rattle.ignite_types.specs.declared.scenario.Item.TheVariants as item
@@ -79,10 +79,14 @@ offer_after phase.OfferBegun a = option_map phase.OfferNumbered (number_between 
 offer_after (phase.OfferNumbered number) answer.Done = Some phase.OfferPut
 offer_after _ _ = None
 
+-- after the number of the last item taken was read
+abbrev pub head_after : Answer → Option Phase
+head_after answer.Absent = Some (phase.PollHead 0)
+head_after a = option_map phase.PollHead (number_between 0 999998 (answer_number a))
+
 abbrev pub poll_after : Phase → Answer → Option Phase
 poll_after phase.Fresh answer.Done = Some phase.PollBegun
-poll_after phase.PollBegun answer.Absent = Some (phase.PollHead 0)
-poll_after phase.PollBegun a = option_map phase.PollHead (number_between 0 999998 (answer_number a))
+poll_after phase.PollBegun a = head_after a
 poll_after (phase.PollHead head) answer.Absent = Some phase.PollEmpty
 poll_after (phase.PollHead head) (answer.Found value) = Some (phase.PollFound head value)
 poll_after (phase.PollFound head value) a = option_map (λ (n : ℤ). phase.PollCounted head value) (answer_number a)
@@ -108,17 +112,24 @@ abbrev pub first_number : Answer → Option ℤ → Answer
 first_number a None = a
 first_number a (Some sum) = if int_le (pos 10) sum then answer.Found (signed_decimal (sum -ℤ pos 9)) else a
 
+abbrev pub offer_end : Phase → Answer → Option Told
+offer_end phase.OfferPut a = Some (if_committed a (told.Plain answer.Done))
+offer_end (phase.Undone why) a = Some (told.Plain why)
+offer_end _ a = None
+
+abbrev pub poll_end : Phase → Answer → Option Told
+poll_end phase.PollEmpty a = Some (if_committed a told.Empty)
+poll_end (phase.PollTaken value) a = Some (if_committed a (told.Plain (answer.Found value)))
+poll_end (phase.Undone why) a = Some (told.Plain why)
+poll_end _ a = None
+
 -- what the item is answered, where this answer of a plain command ends it
 abbrev pub item_end : Item → Phase → Answer → Option Told
 item_end (item.Plain c) p a = Some (told.Plain a)
 item_end (item.Incr object amount) p a = Some (told.Plain a)
 item_end (item.Next object) p a = Some (told.Plain (first_number a (answer_number a)))
-item_end (item.Offer object value) phase.OfferPut a = Some (if_committed a (told.Plain answer.Done))
-item_end (item.Offer object value) (phase.Undone why) a = Some (told.Plain why)
-item_end (item.Poll object) phase.PollEmpty a = Some (if_committed a told.Empty)
-item_end (item.Poll object) (phase.PollTaken value) a = Some (if_committed a (told.Plain (answer.Found value)))
-item_end (item.Poll object) (phase.Undone why) a = Some (told.Plain why)
-item_end _ _ _ = None
+item_end (item.Offer object value) p a = offer_end p a
+item_end (item.Poll object) p a = poll_end p a
 
 -- Numbers that a session has left of a sequence.
 
@@ -156,11 +167,15 @@ pub record Advance : Type 0 where
 abbrev pub next_place : Progress → Progress
 next_place p = record { place = raised p.place; phase = phase.Fresh; ranges = p.ranges }
 
+-- the numbers behind the first one; a sequence of which none is left is taken out
+abbrev pub without_first : Ranges → Key × Range → Ranges
+without_first ranges (object, range) =
+    if int_lt range.next range.last then put key_cmp ranges object (record { next = range.next +ℤ pos 1; last = range.last })
+    else without key_cmp ranges object
+
 -- an item that needs no command is answered the least number that is left
 abbrev pub given_out : Progress → Key × Range → Progress
-given_out p (object, range) = record (next_place p) {
-  ranges = put key_cmp p.ranges object (record { next = range.next +ℤ pos 1; last = range.last });
-}
+given_out p left = record (next_place p) { ranges = without_first p.ranges left }
 
 abbrev pub number_told : Key × Range → Told
 number_told (object, range) = told.Plain (answer.Found (signed_decimal range.next))

@@ -1,0 +1,4 @@
+pub mod Copies
+pub mod CutTexts
+pub mod Decimals
+pub mod Spelled

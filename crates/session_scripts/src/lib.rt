@@ -2,9 +2,13 @@
 //! go on.
 #![tactic(auto)]
 
-mod advance;
-mod items;
+mod answers;
+mod commands;
+mod keys;
 mod numbers;
+mod progress;
+mod ranges;
 
-pub use advance::{advance, command_at};
-pub use numbers::{added, number_of};
+pub use commands::command_at;
+pub use numbers::{added, number_of, number_value};
+pub use progress::{advance, advance_told};

@@ -4,7 +4,7 @@ ghost use Rattle.std.specs.Prelude.{◌≡◌, ◌≤◌, ◌^◌, ◌+ℤ◌, l
 ghost use Rattle.std.specs.List.{list_all};
 ghost use Rattle.std.specs.Fmt.{signed_decimal};
 ghost use Rattle.std.specs.Str.Parse.{digits_value};
-ghost use Rattle.base_words.specs.Numbers.{added, added_to, below_zero, is_natural, natural, number_of, sum_in_64};
+ghost use Rattle.base_words.specs.Numbers.{added, below_zero, is_natural, natural, number_of, sum_in_64};
 ghost use Rattle.ignite_types.specs.Texts.{is_digit};
 
 use ignite_types::{Answer, Value};
@@ -16,6 +16,7 @@ const DIGITS: usize = 19;
 /// The greatest number.
 const MOST: u64 = 9223372036854775807;
 
+/// Whether each byte is a digit.
 fn are_digits(text: &[u8]) -> bool
     ensures { result ≡ list_all is_digit text.now }
 {
@@ -76,6 +77,7 @@ pub fn number_of(value: &Value) -> Option<i64>
     number_in(value.bytes())
 }
 
+/// The number that a text is.
 fn number_in(text: &[u8]) -> Option<i64>
     ensures { result ≡ number_of text.now }
 {
