@@ -1,7 +1,7 @@
 -- What becomes of the transactions of a lost starter: each node lists what it holds of them, and the oldest member decides.
 use Rattle.std.specs.List.{flat_map, list_all, list_any}
 use Rattle.std.specs.Ordering.{ordering_then}
-use Rattle.std.specs.Prelude.{Bool, None, Option, Some, [], false, filter, if◌then◌else◌, length, map, nat_eq, nat_le, not, true, ℕ, ◌&&◌, ◌++◌, ◌||◌, ◌∷◌}
+use Rattle.std.specs.Prelude.{Bool, None, Option, Some, [], false, filter, if◌then◌else◌, length, map, nat_eq, not, true, ℕ, ◌&&◌, ◌++◌, ◌||◌, ◌∷◌}
 use Rattle.std.specs.declared.cmp.Ordering.{Ordering}
 use Rattle.act_rows.specs.Decisions.{finishes_for_lost, orphaned}
 use Rattle.act_rows.specs.Steps.{is_live, live_among, lost_among, noting, oldest_seen, outs_to, sent_all, sent_to_oldest, share_of}
@@ -113,10 +113,7 @@ starts_round s place = record s { round = Some (new_round place s.members) }
 
 -- the round before is over; this node's list goes to the oldest member
 abbrev pub begins_round : NodeState → ℕ → NodeState
-begins_round s place = let here = record s {
-  round = Some (new_round place s.members);
-  reports = filter (λ (r : Report). nat_le place r.round) s.reports;
-} in sent_to_oldest here (msg.Orphans place (orphans_of here)) (oldest_seen here)
+begins_round s place = sends_orphans (starts_round s place) place
 
 -- The verdicts.
 

@@ -15,7 +15,7 @@ use ignite_types::{
 };
 use node_state::Read;
 use node_steps::Node;
-use crate::stub::added;
+use session_scripts::added;
 use tx_decisions::{decide, fail};
 
 /// The most keys that a transaction may touch.

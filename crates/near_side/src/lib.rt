@@ -10,7 +10,6 @@ mod preparing;
 mod replies;
 mod sessions;
 mod starts;
-mod stub;
 mod values;
 
 pub use access::does;

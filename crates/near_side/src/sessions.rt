@@ -7,7 +7,7 @@ ghost use Rattle.act_rows.specs.Steps.{desk_of, on_desk};
 use ignite_types::{Answer, Command, Mem, Rec};
 use node_state::Desk;
 use node_steps::Node;
-use crate::stub::{advance, command_at};
+use session_scripts::{advance, command_at};
 
 /// The command that the session would give next: at the script's end an open block is closed.
 fn next_of(desk: &Desk) -> Option<Command>

@@ -2,7 +2,6 @@
 #![tactic(auto)]
 
 mod history;
-mod stub;
 mod walk;
 
 pub use history::{BadRead, CommitEntry, commits, footprint, serial};

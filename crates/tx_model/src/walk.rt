@@ -13,7 +13,7 @@ use ignite_types::{
 };
 use ordered_set::Set;
 use ordered_table::Table;
-use crate::stub::added;
+use session_scripts::added;
 use std::alloc::Global;
 
 /// A walk over a journal's records for one transaction.
