@@ -56,13 +56,22 @@ is_over e _ = is_none e.top
 abbrev pub is_done_share : OwnShare → Bool
 is_done_share h = is_kept_commit h.state && nat_eq (length h.askers) 0
 
+abbrev pub all_over : List (TxId × TxEntry) → Bool
+all_over txs = list_all (λ (e : TxId × TxEntry). is_over e.1 e.1.state) txs
+
+abbrev pub all_done : List (TxId × OwnShare) → Bool
+all_done shares = list_all (λ (e : TxId × OwnShare). is_done_share e.1) shares
+
+abbrev pub all_committed_backups : List (BackupName × BackupShare) → Bool
+all_committed_backups backups = list_all (λ (e : BackupName × BackupShare). is_kept_commit e.1.state) backups
+
 -- no transaction with a version is open here, no lock or waiting place is held, no share is open, no finish is in work,
 -- and a recoverer's round is settled
 abbrev pub is_drained : NodeState → Bool
-is_drained s = list_all (λ (e : TxId × TxEntry). is_over e.1 e.1.state) s.txs
+is_drained s = all_over s.txs
     && nat_eq (length s.queues) 0
-    && list_all (λ (e : TxId × OwnShare). is_done_share e.1) s.shares
-    && list_all (λ (e : BackupName × BackupShare). is_kept_commit e.1.state) s.backups
+    && all_done s.shares
+    && all_committed_backups s.backups
     && recovery_calm s s.round
 
 abbrev pub was_sent : TopVer → Option TopVer → Bool

@@ -1,169 +1,170 @@
 //! What a node does at the end of each act.
 
 ghost use Rattle.std.specs.Prelude.{◌≡◌, OnOk, IfOk};
-ghost use Rattle.act_rows.specs.Closing.{closed, is_open, is_start, near_closed, near_on, near_on_desk, near_on_tx, phase_over, sessions_of, start_command, start_desk, start_each, start_tx, starts, starts_all};
-ghost use Rattle.act_rows.specs.NearSide.{closing_answer};
-ghost use Rattle.act_rows.specs.Steps.{desk_of};
+ghost use Rattle.base_words.specs.Tables.{keys_in};
+ghost use Rattle.act_rows.specs.Closing.{closed, is_drained, is_over, near_on, near_on_each, near_on_entry, owes_single, sends_single, single_if_drained, was_sent, all_done, all_over, all_committed_backups};
+ghost use Rattle.act_rows.specs.Exchange.{is_kept_commit};
+ghost use Rattle.act_rows.specs.Steps.{entry_of};
 
-use crate::node::Node;
-use ignite_types::{Answer, Command, List, Mem, Rec, TxId};
-use node_state::TxState;
+use ignite_types::{List, Mem, Message, ShareState, TopVer, TxId};
+use near_side::start_all;
+use node_state::{BackupName, BackupShare, OwnShare, TxEntry, TxState};
+use node_steps::Node;
+use plain_copies::Duplicate;
+use prepare_finish::shares_go_on;
+use tx_decisions::{decide, end, txs_of};
+use tx_recovery::is_calm;
 
-/// What a session is answered when its transaction has ended.
-fn closing_answer(state: TxState, outcome: &Option<Answer>) -> Answer
-    ensures { result ≡ closing_answer state outcome.now }
+/// A transaction that awaits no answer of its phase goes on: it is decided, or it has ended.
+fn near_on_entry(node: &mut Node, tx: TxId) -> Mem<()>
+    ensures { OnOk result (node.new ≡ near_on_entry node.old tx (entry_of node.old tx)) }
 {
-    match outcome {
-        Some(answer) => *answer,
-        None => match state {
-            TxState::Committing => Answer::Committed,
-            _ => Answer::RolledBack,
-        },
-    }
-}
-
-/// Whether the command is one that waits for its transaction's start.
-fn is_start(command: &Command) -> bool
-    ensures { result ≡ is_start command.now }
-{
-    matches!(
-        command,
-        Command::Get(_) | Command::Put(_, _) | Command::Commit
-    )
-}
-
-impl Node {
-    /// A transaction that awaits no answer of its phase is decided, or has ended.
-    fn near_goes_on(&mut self, tx: &Option<TxId>) -> Mem<()>
-        ensures { OnOk result (self.new ≡ near_on_tx self.old tx.now) }
-    {
-        let Some(tx) = *tx else {
-            return Ok(());
-        };
-        let Some(entry) = self.entry(&tx) else {
-            return Ok(());
-        };
-        if entry.awaited.len() != 0 {
-            return Ok(());
-        }
-        let answer = closing_answer(entry.state, &entry.outcome);
-        match entry.state {
-            TxState::Preparing => self.decide(tx, true),
-            TxState::Committing => self.end(tx, answer),
-            TxState::RollingBack => self.end(tx, answer),
-            _ => Ok(()),
-        }
-    }
-
-    /// The near side of each of these sessions goes on.
-    fn near_side_goes_on(&mut self, sessions: &[u32]) -> Mem<()>
-        ensures { OnOk result (self.new ≡ near_on self.old sessions.now) }
-    {
-        for session in sessions {
-            let tx = match self.desk(*session) {
-                Some(desk) => desk.tx,
-                None => None,
-            };
-            self.near_goes_on(&tx)?;
-        }
-        Ok(())
-    }
-
-    /// Whether the last version seen is open here.
-    fn is_open(&self) -> bool
-        ensures { result ≡ is_open self.now self.now.opened }
-    {
-        match self.state.opened {
-            Some(top) => top == self.state.seen,
-            None => false,
-        }
-    }
-
-    /// The transaction's version is fixed, and its first command is done.
-    fn start(&mut self, tx: TxId, block: bool, command: &Command) -> Mem<()>
-        ensures { OnOk result (self.new ≡ starts self.old tx block command.now) }
-    {
-        let top = self.state.seen;
-        self.fix_version(tx, top)?;
-        self.note(Rec::Start { tx, top })?;
-        self.does(tx, top, block, command)
-    }
-
-    /// The pending command starts its transaction, where it is one that does.
-    fn start_command(&mut self, tx: TxId, block: bool, pending: &Option<Command>) -> Mem<()>
-        ensures { OnOk result (self.new ≡ start_command self.old tx block pending.now) }
-    {
-        match pending {
-            Some(command) => {
-                if is_start(command) {
-                    self.start(tx, block, command)
-                } else {
-                    Ok(())
-                }
+    let Some(entry) = node.entry(&tx) else {
+        return Ok(());
+    };
+    let state = entry.state;
+    let outcome = entry.outcome;
+    let fault = entry.fault;
+    match (entry.awaited.as_slice(), entry.backups.as_slice()) {
+        ([], []) => match state {
+            TxState::Preparing => decide(node, tx, true),
+            TxState::Committing | TxState::RollingBack => {
+                end(node, tx, state, &outcome, &fault)
             }
-            None => Ok(()),
+            _ => Ok(()),
+        },
+        _ => Ok(()),
+    }
+}
+
+fn near_on_each(node: &mut Node, txs: &[TxId]) -> Mem<()>
+    ensures { OnOk result (node.new ≡ near_on_each node.old txs.now) }
+{
+    for tx in txs {
+        near_on_entry(node, *tx)?;
+    }
+    Ok(())
+}
+
+/// The near side's transactions go on, by transaction.
+fn near_on(node: &mut Node) -> Mem<()>
+    ensures { OnOk result (node.new ≡ near_on node.old) }
+{
+    let txs = txs_of(node)?;
+    near_on_each(node, txs.as_slice())
+}
+
+/// Whether a transaction has no version, or has ended.
+fn is_over(entry: &TxEntry) -> bool
+    ensures { result ≡ is_over entry.now entry.now.state }
+{
+    match entry.state {
+        TxState::Ended => true,
+        _ => entry.top.is_none(),
+    }
+}
+
+fn all_over(txs: &[(TxId, TxEntry)]) -> bool
+    ensures { result ≡ all_over txs.now }
+{
+    for (_, entry) in txs {
+        if !is_over(entry) {
+            return false;
         }
     }
+    true
+}
 
-    /// The session's transaction starts, where it waits for that.
-    fn start_session(&mut self, session: u32) -> Mem<()>
-        ensures { OnOk result (self.new ≡ start_desk self.old (desk_of self.old session)) }
-    {
-        let Some(desk) = self.desk(session) else {
-            return Ok(());
-        };
-        let block = desk.block;
-        let pending = desk.pending;
-        let Some(tx) = desk.tx else {
-            return Ok(());
-        };
-        let Some(entry) = self.entry(&tx) else {
-            return Ok(());
-        };
-        match entry.top {
-            None => self.start_command(tx, block, &pending),
-            Some(_) => Ok(()),
+fn is_kept_commit(state: ShareState) -> bool
+    ensures { result ≡ is_kept_commit state }
+{
+    match state {
+        ShareState::Committed => true,
+        _ => false,
+    }
+}
+
+/// Whether all shares are Committed, with no finish in work.
+fn all_done(shares: &[(TxId, OwnShare)]) -> bool
+    ensures { result ≡ all_done shares.now }
+{
+    for (_, share) in shares {
+        if !(is_kept_commit(share.state) && share.askers.len() == 0) {
+            return false;
         }
     }
+    true
+}
 
-    fn start_each(&mut self, sessions: &[u32]) -> Mem<()>
-        ensures { OnOk result (self.new ≡ start_each self.old sessions.now) }
-    {
-        for session in sessions {
-            self.start_session(*session)?;
+fn all_committed_backups(backups: &[(BackupName, BackupShare)]) -> bool
+    ensures { result ≡ all_committed_backups backups.now }
+{
+    for (_, backup) in backups {
+        if !is_kept_commit(backup.state) {
+            return false;
         }
+    }
+    true
+}
+
+/// Whether all older work has ended here.
+fn is_drained(node: &Node) -> bool
+    ensures { result ≡ is_drained node.now }
+{
+    all_over(node.state.txs.as_slice())
+        && node.state.queues.len() == 0
+        && all_done(node.state.shares.as_slice())
+        && all_committed_backups(node.state.backups.as_slice())
+        && is_calm(node)
+}
+
+fn was_sent(top: TopVer, sent: Option<TopVer>) -> bool
+    ensures { result ≡ was_sent top sent }
+{
+    match sent {
+        Some(sent) => sent == top,
+        None => false,
+    }
+}
+
+fn owes_single(node: &Node) -> bool
+    ensures { result ≡ owes_single node.now }
+{
+    !node.is_installed(node.state.seen)
+        && !was_sent(node.state.seen, node.state.single_sent)
+        && is_drained(node)
+}
+
+/// A drained node that has not installed the last version seen sends its Single once.
+fn send_single(node: &mut Node) -> Mem<()>
+    ensures { OnOk result (node.new ≡ sends_single node.old) }
+{
+    let top = node.state.seen;
+    let map = node.state.installed.copy(node.alloc)?;
+    let complete = complete_parts(node)?;
+    let oldest = node.oldest();
+    node.state.single_sent = Some(top);
+    node.send_to_oldest(Message::Single { top, map, complete }, oldest)
+}
+
+/// The partitions that are complete here.
+fn complete_parts(node: &Node) -> Mem<List<u32>>
+    ensures { IfOk result (λ parts. parts ≡ node.now.complete) }
+{
+    List::from_slice(node.alloc, node.state.complete.as_slice())
+}
+
+/// The closing rules: the primary's shares go on first, then the near side; what starts goes on in the same act.
+pub(crate) fn close(node: &mut Node) -> Mem<()>
+    ensures { OnOk result (node.new ≡ closed node.old) }
+{
+    shares_go_on(node)?;
+    near_on(node)?;
+    start_all(node)?;
+    near_on(node)?;
+    if owes_single(node) {
+        send_single(node)
+    } else {
         Ok(())
-    }
-
-    /// What waits for the last version seen starts, where it is open here.
-    fn start_all(&mut self, sessions: &[u32]) -> Mem<()>
-        ensures { OnOk result (self.new ≡ starts_all self.old sessions.now) }
-    {
-        if self.is_open() {
-            self.start_each(sessions)
-        } else {
-            Ok(())
-        }
-    }
-
-    fn sessions(&self) -> Mem<List<u32>>
-        ensures { IfOk result (λ sessions. sessions ≡ sessions_of self.now) }
-    {
-        let mut sessions = List::new(self.alloc);
-        for (session, _) in self.state.desks.as_slice() {
-            sessions.push(*session)?;
-        }
-        Ok(sessions)
-    }
-
-    /// The closing rules: the primary's shares go on first, then the near side; what starts goes on in the same act.
-    pub(crate) fn close(&mut self) -> Mem<()>
-        ensures { OnOk result (self.new ≡ closed self.old) }
-    {
-        let sessions = self.sessions()?;
-        self.shares_go_on()?;
-        self.near_side_goes_on(sessions.as_slice())?;
-        self.start_all(sessions.as_slice())?;
-        self.near_side_goes_on(sessions.as_slice())
     }
 }

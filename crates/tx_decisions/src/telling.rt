@@ -115,13 +115,13 @@ pub fn end(
     node: &mut Node,
     tx: TxId,
     state: TxState,
-    outcome: Option<Answer>,
-    fault: Option<Fault>,
+    outcome: &Option<Answer>,
+    fault: &Option<Fault>,
 ) -> Mem<()>
-    ensures { OnOk result (node.new ≡ ends node.old tx state outcome fault) }
+    ensures { OnOk result (node.new ≡ ends node.old tx state outcome.now fault.now) }
 {
     match fault {
-        Some(fault) => fault_ended(node, tx, &fault),
-        None => close(node, tx, closing_answer(state, outcome)),
+        Some(fault) => fault_ended(node, tx, fault),
+        None => close(node, tx, closing_answer(state, *outcome)),
     }
 }

@@ -1,6 +1,0 @@
-use Rattle.std.proofs.Common.{◌≡◌, ◌++◌, drop}
-use Rattle.act_rows.specs.Locks.{keys_of}
-use Rattle.node_core.proofs.locks.keys_of.Given as goal
-
-abbrev pub invariant-loop-key : goal.invariant-loop-key
-invariant-loop-key l = l.keys ++ keys_of (drop l.key-index l.key-items) l.tx ≡ keys_of l.key-items l.tx
