@@ -1,0 +1,12 @@
+use Rattle.std.proofs.Common.{subst, [], ◌∷◌, ◌≡◌}
+use Rattle.std.specs.Prelude.{OnOk}
+use Rattle.act_rows.specs.Exchange.{counts}
+use Rattle.ignite_types.specs.declared.list.List.{List}
+use Rattle.ignite_types.specs.declared.names.NodeId.{NodeId}
+use Rattle.node_state.specs.declared.node.NodeState.{NodeState}
+use Rattle.partition_exchange.proofs.coordinating.compute.Goals as goal
+
+pub returns : goal.returns
+returns c =
+    subst (λ (s : NodeState). OnOk c.count.result (c.count.new.node ≡ counts s (record { top = c.args.map.top; installed = c.args.node.now.me ∷ [] }))) c.in_ok-publish.ensures
+    (subst (λ (nodes : List NodeId). OnOk c.count.result (c.count.new.node ≡ counts c.publish.new.node (record { top = c.args.map.top; installed = nodes }))) c.in_ok-installed.ensures c.count.ensures)

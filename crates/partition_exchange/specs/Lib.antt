@@ -1,0 +1,2 @@
+pub mod Coordinating
+pub mod Movers
