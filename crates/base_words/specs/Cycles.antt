@@ -1,5 +1,6 @@
 -- The search for a deadlock in the waits that were gathered: the first cycle through a transaction, depth first.
 use Rattle.std.specs.List.{list_any}
+use Rattle.std.specs.Option.{option_map}
 use Rattle.std.specs.Prelude.{Bool, None, Option, Some, [], false, if◌then◌else◌, length, suc, true, zero, ℕ, ◌&&◌, ◌++◌, ◌+◌, ◌∷◌}
 use Rattle.base_words.specs.Drain.{below}
 use Rattle.ignite_types.specs.Names.{same_key, same_node, same_tx, tx_cmp}
@@ -33,30 +34,37 @@ pub record Descent : Type 0 where
 abbrev pub no_way : List TxId → Descent
 no_way entered = record { way = None; entered = entered }
 
--- after a descent from an edge's holder: the way goes on from there, or the next edge is tried
-abbrev pub behind_edge : Edge → List TxId → Option (List Edge) → (List TxId → Descent) → Descent
-behind_edge edge entered None later = later entered
-behind_edge edge entered (Some way) later = record { way = Some (edge ∷ way); entered = entered }
+-- an edge in front of the way that was found from its holder
+abbrev pub behind_edge : Edge → Descent → Descent
+behind_edge edge below = record { way = option_map (λ (way : List Edge). edge ∷ way) below.way; entered = below.entered }
 
-abbrev pub into_holder : Edge → Descent → (List TxId → Descent) → Descent
-into_holder edge below later = behind_edge edge below.entered below.way later
+abbrev pub into_holder : (List TxId → TxId → Descent) → Edge → List TxId → Bool → Bool → Descent
+into_holder deeper edge entered true _ = record { way = Some (edge ∷ []); entered = entered }
+into_holder deeper edge entered false true = no_way entered
+into_holder deeper edge entered false false =
+    behind_edge edge (deeper (with_member tx_cmp entered edge.wait.holder) edge.wait.holder)
 
-abbrev pub along : (List TxId → TxId → Descent) → TxId → Edge → List TxId → Bool → Bool → (List TxId → Descent) → Descent
-along deeper tx edge entered true _ later = record { way = Some (edge ∷ []); entered = entered }
-along deeper tx edge entered false true later = later entered
-along deeper tx edge entered false false later =
-    into_holder edge (deeper (with_member tx_cmp entered edge.wait.holder) edge.wait.holder) later
+-- one edge is followed: it ends at the transaction, or the descent goes on from its holder
+abbrev pub along : (List TxId → TxId → Descent) → TxId → Edge → List TxId → Descent
+along deeper tx edge entered =
+    into_holder deeper edge entered (same_tx edge.wait.holder tx) (has tx_cmp entered edge.wait.holder)
 
-abbrev pub try_edge : (List TxId → TxId → Descent) → TxId → TxId → Edge → List TxId → Bool → (List TxId → Descent) → Descent
-try_edge deeper tx at_tx edge entered false later = later entered
-try_edge deeper tx at_tx edge entered true later =
-    along deeper tx edge entered (same_tx edge.wait.holder tx) (has tx_cmp entered edge.wait.holder) later
+abbrev pub try_edge : (List TxId → TxId → Descent) → TxId → TxId → List TxId → Edge → Descent
+try_edge deeper tx at_tx entered edge = if same_tx edge.wait.waiter at_tx then along deeper tx edge entered else no_way entered
+
+-- a way that was found, or else what comes later
+abbrev pub or_later : List TxId → Option (List Edge) → (List TxId → Descent) → Descent
+or_later entered None later = later entered
+or_later entered (Some way) later = record { way = Some way; entered = entered }
+
+abbrev pub then_later : Descent → (List TxId → Descent) → Descent
+then_later found later = or_later found.entered found.way later
 
 -- the edges of one waiter are tried in kept order; no transaction is entered twice
 abbrev pub tries : (List TxId → TxId → Descent) → TxId → TxId → List TxId → List Edge → Descent
 tries deeper tx at_tx entered [] = no_way entered
 tries deeper tx at_tx entered (edge ∷ edges) =
-    try_edge deeper tx at_tx edge entered (same_tx edge.wait.waiter at_tx) (λ now_entered. tries deeper tx at_tx now_entered edges)
+    then_later (try_edge deeper tx at_tx entered edge) (λ now_entered. tries deeper tx at_tx now_entered edges)
 
 abbrev pub descends : ℕ → TxId → List Edge → List TxId → TxId → Descent
 descends zero tx edges entered at_tx = no_way entered

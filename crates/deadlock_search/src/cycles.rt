@@ -1,30 +1,101 @@
 //! The first cycle in the waits that were gathered, depth first.
 
-ghost use Rattle.std.specs.Prelude.{◌≡◌, IfOk};
-ghost use Rattle.base_words.specs.Cycles.{cycle_through, descends, same_edge, with_edge, with_waits};
+ghost use Rattle.std.specs.Prelude.{◌≡◌, ◌∷◌, List as SpecList, OnOk, IfOk, option_map};
+ghost use Rattle.base_words.specs.Cycles.{along, cycle_through, descends, tries, try_edge};
 
-use ignite_types::{Edge, List, Mem, NodeId, TxId, Wait};
+use ignite_types::{Edge, List, Mem, TxId};
 use ordered_set::Set;
 use std::alloc::Global;
 
-/// Of two equal waits from one node the first is kept.
-fn add_edge(edges: &mut List<Edge>, edge: &Edge) -> Mem<()>
-    ensures { OnOk result (edges.new ≡ with_edge edges.old edge.now) }
+/// An edge in front of the way that was found from its holder.
+fn behind_edge(alloc: Global, edge: &Edge, below: Option<List<Edge>>) -> Mem<Option<List<Edge>>>
+    ensures { IfOk result (λ way. way ≡ option_map (λ (way : SpecList Edge). edge.now ∷ way) below) }
 {
-    if edges.as_slice().iter().any(|other| *edge == *other) {
-        Ok(())
-    } else {
-        edges.push(*edge)
+    match below {
+        Some(rest) => {
+            let mut way = List::new(alloc);
+            way.push(*edge)?;
+            way.append(rest)?;
+            Ok(Some(way))
+        }
+        None => Ok(None),
     }
 }
 
-/// The waits of one answer are kept, in its order.
-pub(crate) fn add_waits(edges: &mut List<Edge>, node: NodeId, act: u64, waits: &[Wait]) -> Mem<()>
-    ensures { OnOk result (edges.new ≡ with_waits edges.old node act waits.now) }
+/// One edge is followed: it ends at the transaction, or the descent goes on from its holder.
+#[cycle(descent)]
+fn follow(
+    alloc: Global,
+    depth: usize,
+    tx: &TxId,
+    edges: &[Edge],
+    entered: &mut Set<TxId>,
+    edge: &Edge,
+) -> Mem<Option<List<Edge>>>
+    ensures way { IfOk result (λ way. way ≡ (along (λ seen holder. descends depth tx.now edges.now seen holder) tx.now edge.now entered.old).way) }
+    ensures entered { OnOk result (entered.new ≡ (along (λ seen holder. descends depth tx.now edges.now seen holder) tx.now edge.now entered.old).entered) }
 {
-    for wait in waits {
-        let wait = *wait;
-        add_edge(edges, &Edge { node, act, wait })?;
+    let holder = edge.wait.holder;
+    if holder == *tx {
+        return behind_edge(alloc, edge, Some(List::new(alloc)));
     }
-    Ok(())
+    if entered.contains(&holder) {
+        return Ok(None);
+    }
+    entered.insert(holder)?;
+    let below = descend(alloc, depth, tx, edges, entered, &holder)?;
+    behind_edge(alloc, edge, below)
+}
+
+/// The edges of one waiter are tried in kept order.
+#[cycle(descent)]
+fn try_edges(
+    alloc: Global,
+    depth: usize,
+    tx: &TxId,
+    edges: &[Edge],
+    entered: &mut Set<TxId>,
+    at: &TxId,
+) -> Mem<Option<List<Edge>>>
+    ensures way { IfOk result (λ way. way ≡ (tries (λ seen holder. descends depth tx.now edges.now seen holder) tx.now at.now entered.old edges.now).way) }
+    ensures entered { OnOk result (entered.new ≡ (tries (λ seen holder. descends depth tx.now edges.now seen holder) tx.now at.now entered.old edges.now).entered) }
+{
+    for edge in edges {
+        if edge.wait.waiter == *at {
+            if let Some(way) = follow(alloc, depth, tx, edges, entered, edge)? {
+                return Ok(Some(way));
+            }
+        }
+    }
+    Ok(None)
+}
+
+/// A descent through waits: the way back to the transaction, if there is one. No transaction is entered twice.
+#[cycle(descent)]
+#[tactic(auto, using(crate::proofs::Descents::descends_below))]
+fn descend(
+    alloc: Global,
+    depth: usize,
+    tx: &TxId,
+    edges: &[Edge],
+    entered: &mut Set<TxId>,
+    at: &TxId,
+) -> Mem<Option<List<Edge>>>
+    ensures way { IfOk result (λ way. way ≡ (descends depth tx.now edges.now entered.old at.now).way) }
+    ensures entered { OnOk result (entered.new ≡ (descends depth tx.now edges.now entered.old at.now).entered) }
+{
+    if depth == 0 {
+        Ok(None)
+    } else {
+        try_edges(alloc, depth - 1, tx, edges, entered, at)
+    }
+}
+
+/// The first cycle through the transaction, its edges in order.
+pub fn cycle_through(alloc: Global, tx: &TxId, edges: &[Edge]) -> Mem<Option<List<Edge>>>
+    ensures { IfOk result (λ way. way ≡ cycle_through tx.now edges.now) }
+{
+    let mut entered = Set::new(alloc);
+    entered.insert(*tx)?;
+    descend(alloc, edges.len() + 1, tx, edges, &mut entered, tx)
 }

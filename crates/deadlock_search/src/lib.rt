@@ -3,6 +3,7 @@
 
 mod cycles;
 mod deadlines;
+mod edges;
 mod gathering;
 mod rounds;
 
