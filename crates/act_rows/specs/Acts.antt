@@ -46,7 +46,29 @@ abbrev pub backup_finished_row : NodeState → NodeId → TxId → NodeId → No
 backup_finished_row s from tx primary = recovery_backup_finished
     (near_backup_finished (own_backup_finished s from tx primary) from tx primary) from tx primary
 
--- the message table
+-- the messages of topology and recovery
+abbrev pub topology_row : NodeState → NodeId → Message → NodeState
+topology_row s from (msg.Single top m complete) = single_row s from top m complete
+topology_row s from (msg.Full m) = full_row s from m
+topology_row s from (msg.Installed top) = installed_row s from top
+topology_row s from (msg.Opens top) = opens_row s top
+topology_row s from (msg.Demand top part after) = demand_row s from top part after
+topology_row s from (msg.Supply top part entries last) = supply_row s from top part entries last
+topology_row s from (msg.Complete top) = complete_row s from top
+topology_row s from (msg.Orphans round list) = orphans_row s from round list
+topology_row s from _ = s
+
+-- the messages between the parts of a primary, its backups, movers and readers
+abbrev pub holder_row : NodeState → NodeId → Message → NodeState
+holder_row s from (msg.BackupPrepare tx top shares primary writes) = backup_prepare_row s from tx top shares primary writes
+holder_row s from (msg.BackupPrepared tx) = backup_prepared_row s from tx
+holder_row s from (msg.BackupFinish tx primary commit) = backup_finish_row s from tx primary commit
+holder_row s from (msg.BackupFinished tx primary) = backup_finished_row s from tx primary
+holder_row s from (msg.NearUpdate tx key new ver) = near_update_row s from tx key new ver
+holder_row s from (msg.NearDone tx key) = near_done_row s from tx key
+holder_row s from m = topology_row s from m
+
+-- the message table: first the messages between starters and primaries, and those of a search
 abbrev pub message_row : NodeState → NodeId → Message → NodeState
 message_row s from (msg.Lock tx top key) = lock_row s from tx top key
 message_row s from (msg.LockOk tx key found) = lock_ok_row s tx key found
@@ -55,24 +77,11 @@ message_row s from (msg.GetOk tx key found) = get_ok_row s tx key found
 message_row s from (msg.Prepare tx top mode shares wanted writes) = prepare_row s from tx top mode shares wanted writes
 message_row s from (msg.Prepared tx) = prepared_row s from tx
 message_row s from (msg.PrepareFail tx why) = prepare_fail_row s tx why
-message_row s from (msg.BackupPrepare tx top shares primary writes) = backup_prepare_row s from tx top shares primary writes
-message_row s from (msg.BackupPrepared tx) = backup_prepared_row s from tx
 message_row s from (msg.Finish tx commit) = finish_row s from tx commit
 message_row s from (msg.Finished tx) = finished_row s from tx
-message_row s from (msg.BackupFinish tx primary commit) = backup_finish_row s from tx primary commit
-message_row s from (msg.BackupFinished tx primary) = backup_finished_row s from tx primary
-message_row s from (msg.NearUpdate tx key new ver) = near_update_row s from tx key new ver
-message_row s from (msg.NearDone tx key) = near_done_row s from tx key
 message_row s from (msg.Edges tx round of) = edges_row s from tx round of
 message_row s from (msg.EdgesOk tx round act waits) = edges_ok_row s from tx round act waits
-message_row s from (msg.Single top m complete) = single_row s from top m complete
-message_row s from (msg.Full m) = full_row s from m
-message_row s from (msg.Installed top) = installed_row s from top
-message_row s from (msg.Opens top) = opens_row s top
-message_row s from (msg.Demand top part after) = demand_row s from top part after
-message_row s from (msg.Supply top part entries last) = supply_row s from top part entries last
-message_row s from (msg.Complete top) = complete_row s from top
-message_row s from (msg.Orphans round list) = orphans_row s from round list
+message_row s from m = holder_row s from m
 
 -- a message is taken, and noted before all that it brings
 abbrev pub message_act : NodeState → NodeId → Message → Acted

@@ -7,7 +7,6 @@ mod filling;
 mod installing;
 mod opening;
 mod seeing;
-mod starting;
 
 pub use coordinating::{drop_single, on_full, on_installed, on_single};
 pub use filling::{may_switch, on_complete, on_demand, on_supply};

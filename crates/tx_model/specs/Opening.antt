@@ -1,7 +1,7 @@
 -- The world that a run begins with: version 1.0 is seen, installed and open at every initial node.
 use Rattle.std.specs.List.{flat_map}
 use Rattle.std.specs.Ordering.{nat_cmp}
-use Rattle.std.specs.Prelude.{Bool, None, Some, [], false, if◌then◌else◌, map, ℕ, ◌++◌, ◌∷◌}
+use Rattle.std.specs.Prelude.{Bool, None, Option, Some, [], false, if◌then◌else◌, map, true, ℕ, ◌++◌, ◌∷◌}
 use Rattle.act_rows.specs.Commands.{new_desk}
 use Rattle.base_words.specs.Copies.{Copy}
 use Rattle.base_words.specs.Directory.{first_top, node_set, opening_directory, running_from}
@@ -44,6 +44,10 @@ desks_on id number desks (session ∷ more) = desks_on id (capped number 1) (des
 abbrev pub empty_copies : List Row → List Copy
 empty_copies rows = map (λ (row : Row). []) rows
 
+abbrev pub map_if : Bool → PartMap → Option PartMap
+map_if true m = Some m
+map_if false m = None
+
 -- a declared node before its first act, with a map where it is an initial one
 abbrev pub opening_node : Scenario → PartMap → NodeId → Bool → NodeState
 opening_node scenario m id initial = record {
@@ -56,7 +60,7 @@ opening_node scenario m id initial = record {
   members = scenario.nodes;
   running = running_from 0 scenario.caches;
   left = [];
-  installed = if initial then Some m else None;
+  installed = map_if initial m;
   opened = if initial then Some first_top else None;
   desks = desks_on id 1 [] scenario.sessions;
   txs = [];
