@@ -2,7 +2,6 @@
 use Rattle.std.specs.List.{list_any}
 use Rattle.std.specs.Option.{option_map}
 use Rattle.std.specs.Prelude.{Bool, None, Option, Some, [], false, if◌then◌else◌, length, suc, true, zero, ℕ, ◌&&◌, ◌++◌, ◌+◌, ◌∷◌}
-use Rattle.base_words.specs.Drain.{below}
 use Rattle.ignite_types.specs.Names.{same_key, same_node, same_tx, tx_cmp}
 use Rattle.ignite_types.specs.declared.list.List.{List}
 use Rattle.ignite_types.specs.declared.message.Edge.{Edge}
@@ -36,7 +35,7 @@ no_way entered = record { way = None; entered = entered }
 
 -- an edge in front of the way that was found from its holder
 abbrev pub behind_edge : Edge → Descent → Descent
-behind_edge edge below = record { way = option_map (λ (way : List Edge). edge ∷ way) below.way; entered = below.entered }
+behind_edge edge found = record { way = option_map (λ (way : List Edge). edge ∷ way) found.way; entered = found.entered }
 
 abbrev pub into_holder : (List TxId → TxId → Descent) → Edge → List TxId → Bool → Bool → Descent
 into_holder deeper edge entered true _ = record { way = Some (edge ∷ []); entered = entered }

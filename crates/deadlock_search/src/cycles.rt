@@ -1,7 +1,7 @@
 //! The first cycle in the waits that were gathered, depth first.
 
 ghost use Rattle.std.specs.Prelude.{◌≡◌, ◌∷◌, List as SpecList, OnOk, IfOk, option_map};
-ghost use Rattle.base_words.specs.Cycles.{along, cycle_through, descends, tries, try_edge};
+ghost use Rattle.base_words.specs.Cycles.{along, cycle_through, descends, tries};
 
 use ignite_types::{Edge, List, Mem, TxId};
 use ordered_set::Set;
