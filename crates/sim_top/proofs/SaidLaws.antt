@@ -12,7 +12,7 @@ use Rattle.scen_text.specs.Reading.{scenario_of}
 use Rattle.scen_text.specs.Causes.{refusal_text}
 use Rattle.scen_text.specs.declared.cause.Cause.TheVariants.{TooLong}
 use Rattle.std.proofs.lemmas.Bool.{lt-ltb}
-use Rattle.sim_top.specs.Sim.{IsRefused, RefusalSays, Runs, RunSays, OutOfMemory, Follow, Means, Comes, Ends, Written, CutOff, Reading, Writing, WasRead}
+use Rattle.sim_top.specs.Sim.{runnable, IsRefused, RefusalSays, Runs, RunSays, OutOfMemory, Follow, Means, Comes, Ends, Written, CutOff, Reading, Writing, WasRead}
 
 -- a run that is told is what it says
 pub runs_told : (s : Status) (j : Journal) (text : List ℕ) → Runs s j → text ≡ report_of j → RunSays j.scenario s j text
@@ -37,7 +37,7 @@ runs_untold status.ReadFault j runs = absurd runs
 runs_untold status.WriteFault j runs = absurd runs
 
 -- what the scenario of the bytes comes to is what the bytes mean
-pub run_means : (bytes : List ℕ) (scenario : Scenario) (s : Status) (j : Journal) (text : List ℕ) → scenario_of bytes ≡ Ok scenario → RunSays scenario s j text → Means bytes s j text
+pub run_means : (bytes : List ℕ) (scenario : Scenario) (s : Status) (j : Journal) (text : List ℕ) → runnable bytes ≡ Ok scenario → RunSays scenario s j text → Means bytes s j text
 run_means bytes scenario status.AllEnded j text read says = (rw says.0 read, says.1, says.2)
 run_means bytes scenario status.Stalled j text read says = (rw says.0 read, says.1, says.2)
 run_means bytes scenario status.StepLimit j text read says = (rw says.0 read, says.1, says.2)
@@ -59,7 +59,7 @@ all_written words r w status.ReadFault j text comes held = record { text = text;
 all_written words r w status.WriteFault j text comes held = absurd comes
 
 -- a text of too many bytes is refused as such
-too_long : (bytes : List ℕ) → 1048576 < length bytes → scenario_of bytes ≡ Err (record { line = 0; cause = TooLong })
+too_long : (bytes : List ℕ) → 1048576 < length bytes → runnable bytes ≡ Err (record { line = 0; cause = TooLong })
 too_long bytes more = rw (lt-ltb 1048576 (length bytes) more) refl
 
 too_long_refused : (before : Option (List ℕ)) (text : List ℕ) → IfSome before (λ bytes. 1048576 < length bytes) → text ≡ refusal_text 0 TooLong → IfSome before (λ bytes. IsRefused bytes text)

@@ -1,5 +1,5 @@
 -- What a call of the simulator comes to: its status, its journal, and the text that is to be written.
-use Rattle.std.specs.Prelude.{◌≡◌, ◌≢◌, ℕ, List, [], Option, Some, None, Ok, Err, IfSome, length, codes, ◌++◌, ◌∷◌}
+use Rattle.std.specs.Prelude.{◌≡◌, ◌≢◌, ℕ, List, [], Option, Some, None, Result, Ok, Err, IfSome, length, codes, if◌then◌else◌, ◌++◌, ◌∷◌}
 use Rattle.ignite_types.specs.declared.journal.End.{End}
 use Rattle.ignite_types.specs.declared.journal.End.TheVariants as end
 use Rattle.ignite_types.specs.declared.journal.Journal.{Journal}
@@ -13,6 +13,8 @@ use Rattle.report_text.specs.Report.{report_of}
 use Rattle.scen_text.specs.Causes.{Refusal, refusal_text}
 use Rattle.scen_text.specs.declared.cause.Cause.{Cause}
 use Rattle.scen_text.specs.Reading.{scenario_of}
+use Rattle.scen_text.specs.Runnable.{not_yet}
+use Rattle.scen_text.specs.declared.cause.Cause.TheVariants.{NotYet}
 use Rattle.tx_model.specs.Opening.{opening}
 use Rattle.tx_model.specs.Runs.{after, AreSteps, AreFirst, IsLegal, IsScheduled}
 use Rattle.tx_model.specs.World.{possible}
@@ -72,10 +74,19 @@ RunSays s status.StepLimit j text = (j.scenario ≡ s) × Runs status.StepLimit 
 RunSays s status.Memory j text = OutOfMemory j text
 RunSays s _ j text = ⊥
 
+-- a scenario of a form that is not run yet is refused as a whole
+abbrev pub unless_not_yet : Result Scenario Refusal → Result Scenario Refusal
+unless_not_yet (Err refusal) = Err refusal
+unless_not_yet (Ok scenario) = if not_yet scenario then Err (record { line = 0; cause = NotYet }) else Ok scenario
+
+-- the scenario of a text that is run, or why it is not
+abbrev pub runnable : List ℕ → Result Scenario Refusal
+runnable bytes = unless_not_yet (scenario_of bytes)
+
 -- the text is refused, and this line says where and why
 pub record IsRefused (bytes text : List ℕ) : Type 0 where
   pub refusal : Refusal
-  pub refused : scenario_of bytes ≡ Err refusal
+  pub refused : runnable bytes ≡ Err refusal
   pub line : text ≡ refusal_text refusal.line refusal.cause
 
 -- what a refusal comes to
@@ -93,9 +104,9 @@ LineSays s said _ j text = ⊥
 
 -- what the bytes of a scenario come to
 abbrev pub Means : List ℕ → Status → Journal → List ℕ → Type 0
-Means bytes status.AllEnded j text = (scenario_of bytes ≡ Ok j.scenario) × Runs status.AllEnded j × (text ≡ report_of j)
-Means bytes status.Stalled j text = (scenario_of bytes ≡ Ok j.scenario) × Runs status.Stalled j × (text ≡ report_of j)
-Means bytes status.StepLimit j text = (scenario_of bytes ≡ Ok j.scenario) × Runs status.StepLimit j × (text ≡ report_of j)
+Means bytes status.AllEnded j text = (runnable bytes ≡ Ok j.scenario) × Runs status.AllEnded j × (text ≡ report_of j)
+Means bytes status.Stalled j text = (runnable bytes ≡ Ok j.scenario) × Runs status.Stalled j × (text ≡ report_of j)
+Means bytes status.StepLimit j text = (runnable bytes ≡ Ok j.scenario) × Runs status.StepLimit j × (text ≡ report_of j)
 Means bytes status.Refused j text = IsRefused bytes text × (j.groups ≡ [])
 Means bytes status.Memory j text = OutOfMemory j text
 Means bytes _ j text = ⊥

@@ -3,13 +3,14 @@
 ghost use Rattle.std.specs.Prelude.{◌≡◌, [], length, IfOk};
 ghost use Rattle.report_text.specs.Report.{report_of};
 ghost use Rattle.world_core.specs.Run.{begun};
-ghost use Rattle.sim_top.specs.Sim.{Comes, LineSays, Means, RefusalSays, RunSays, Runs, read_fault_text, usage_text};
+ghost use Rattle.scen_text.specs.Causes.{Reads};
+ghost use Rattle.sim_top.specs.Sim.{Comes, LineSays, Means, RefusalSays, RunSays, Runs, read_fault_text, runnable, usage_text};
 
 use crate::drive::drive;
 use host_io::{ReadEnd, Source, read_all};
 use ignite_types::{End, Journal, List, Mem, NoMemory, Scenario, Status};
 use report_text::report;
-use scen_text::{Cause, ReadFault, read_scenario, refusal_line};
+use scen_text::{Cause, ReadFault, not_yet, read_scenario, refusal_line};
 use std::alloc::Global;
 use tx_model::commits;
 use world_core::World;
@@ -160,11 +161,26 @@ fn read_fault(alloc: Global) -> Said
     }
 }
 
+/// The scenario of a text that is run, or why it is not.
+fn read_runnable(alloc: Global, bytes: &[u8]) -> Result<Scenario, ReadFault>
+    ensures { Reads result (runnable bytes.now) }
+{
+    let scenario = read_scenario(alloc, bytes)?;
+    if not_yet(&scenario) {
+        Err(ReadFault::Refused {
+            line: 0,
+            cause: Cause::NotYet,
+        })
+    } else {
+        Ok(scenario)
+    }
+}
+
 /// What the bytes of a scenario come to.
 fn meaning(alloc: Global, bytes: &[u8]) -> Said
     ensures { Means bytes.now result.status result.journal result.text.items }
 {
-    match read_scenario(alloc, bytes) {
+    match read_runnable(alloc, bytes) {
         Ok(scenario) => run(alloc, &scenario),
         Err(ReadFault::Refused { line, cause }) => refuse(alloc, line, cause),
         Err(ReadFault::NoMemory) => out_of_memory(alloc, no_run(alloc)),
