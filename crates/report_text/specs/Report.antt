@@ -15,8 +15,8 @@ use Rattle.ignite_types.specs.declared.scenario.Session.{Session}
 use Rattle.ignite_types.specs.declared.text.Key.{Key}
 use Rattle.ignite_types.specs.Names.{top_cmp}
 use Rattle.scen_text.specs.Items.{key_text, item_text}
-use Rattle.tx_model.specs.declared.history.CommitEntry.{CommitEntry}
-use Rattle.tx_model.specs.History.{commits_of, map_after}
+use Rattle.first_model.specs.declared.history.CommitEntry.{CommitEntry}
+use Rattle.first_model.specs.History.{commits_of, map_after}
 use Rattle.report_text.specs.Answers.{answer_text, tx_text, top_text}
 
 -- The sessions: what each was answered, in order.

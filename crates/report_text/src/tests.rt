@@ -6,7 +6,7 @@ use ignite_types::{
 use scen_text::TextOut;
 use std::alloc::Global;
 use std::test::Fail;
-use tx_model::CommitEntry;
+use first_model::CommitEntry;
 
 const TOP: TopVer = TopVer { major: 1, minor: 0 };
 

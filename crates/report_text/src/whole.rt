@@ -10,7 +10,7 @@ use ignite_types::{End, Group, Journal, Mem, Rec, TopVer};
 use scen_text::TextOut;
 use std::alloc::Global;
 use std::cmp::Ordering;
-use tx_model::CommitEntry;
+use first_model::CommitEntry;
 
 /// The later of two versions.
 fn later(a: TopVer, b: TopVer) -> TopVer

@@ -6,9 +6,9 @@ use Rattle.ignite_types.specs.declared.journal.Event.TheVariants as event
 use Rattle.ignite_types.specs.declared.journal.Group.{Group}
 use Rattle.ignite_types.specs.declared.names.NodeId.{NodeId}
 use Rattle.ignite_types.specs.declared.scenario.Scenario.{Scenario}
-use Rattle.tx_model.specs.Opening.{opening}
-use Rattle.tx_model.specs.Runs.{after, IsStep, AreSteps, AreFirst}
-use Rattle.tx_model.specs.World.{World, outcome, enabled, possible, possible_of, possible_acts, ids, sessions}
+use Rattle.first_model.specs.Opening.{opening}
+use Rattle.first_model.specs.Runs.{after, IsStep, AreSteps, AreFirst}
+use Rattle.first_model.specs.World.{World, outcome, enabled, possible, possible_of, possible_acts, ids, sessions}
 use Rattle.world_core.specs.Run.{Run, begun, stepped, KeepsPast}
 use Rattle.sim_top.specs.Drive.{PastFollows, Follows, Advances, Moves}
 

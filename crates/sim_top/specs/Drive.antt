@@ -1,9 +1,9 @@
 -- How a run is driven: its groups so far are the machine's own, and each event was the first possible one.
 use Rattle.std.specs.Prelude.{◌≡◌, ℕ, Bool, true, false, List, [], ◌∷◌, Some, length, slice_get}
 use Rattle.ignite_types.specs.declared.journal.Event.{Event}
-use Rattle.tx_model.specs.Opening.{opening}
-use Rattle.tx_model.specs.Runs.{after, AreSteps, AreFirst}
-use Rattle.tx_model.specs.World.{possible}
+use Rattle.first_model.specs.Opening.{opening}
+use Rattle.first_model.specs.Runs.{after, AreSteps, AreFirst}
+use Rattle.first_model.specs.World.{possible}
 use Rattle.world_core.specs.Run.{Run, stepped}
 
 -- the groups so far are steps of the machine and follow the schedule

@@ -15,9 +15,9 @@ use Rattle.scen_text.specs.declared.cause.Cause.{Cause}
 use Rattle.scen_text.specs.Reading.{scenario_of}
 use Rattle.scen_text.specs.Runnable.{not_yet}
 use Rattle.scen_text.specs.declared.cause.Cause.TheVariants.{NotYet}
-use Rattle.tx_model.specs.Opening.{opening}
-use Rattle.tx_model.specs.Runs.{after, AreSteps, AreFirst, IsLegal, IsScheduled}
-use Rattle.tx_model.specs.World.{possible}
+use Rattle.first_model.specs.Opening.{opening}
+use Rattle.first_model.specs.Runs.{after, AreSteps, AreFirst, IsLegal, IsScheduled}
+use Rattle.first_model.specs.World.{possible}
 
 -- the most events of a run
 abbrev pub step_limit : ℕ

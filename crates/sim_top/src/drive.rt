@@ -1,7 +1,7 @@
 //! Driving a run: the first possible event, again and again.
 
 ghost use Rattle.std.specs.Prelude.{◌≡◌, ◌≢◌, [], length, OnOk, OnErr, IfOk, MatchBool};
-ghost use Rattle.tx_model.specs.World.{possible};
+ghost use Rattle.first_model.specs.World.{possible};
 ghost use Rattle.world_core.specs.Run.{KeepsPast};
 ghost use Rattle.sim_top.specs.Drive.{Follows, Moves, PastFollows};
 ghost use Rattle.sim_top.specs.Sim.{step_limit};

@@ -12,7 +12,7 @@ use ignite_types::{End, Journal, List, Mem, NoMemory, Scenario, Status};
 use report_text::report;
 use scen_text::{Cause, ReadFault, not_yet, read_scenario, refusal_line};
 use std::alloc::Global;
-use tx_model::commits;
+use first_model::commits;
 use world_core::World;
 
 /// What a call with any word is told.

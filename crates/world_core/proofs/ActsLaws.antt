@@ -3,10 +3,10 @@ use Rattle.std.proofs.Common.{◌≡◌, ℕ, ◌+◌, ◌<◌, List, [], ◌∷
 use Rattle.ignite_types.specs.declared.journal.Event.{Event}
 use Rattle.ignite_types.specs.declared.journal.Event.TheVariants as event
 use Rattle.ignite_types.specs.declared.names.NodeId.{NodeId}
-use Rattle.node_state.specs.declared.node.NodeState.{NodeState}
-use Rattle.tx_model.specs.World.{World, possible_of, possible_acts}
-use Rattle.tx_model.specs.Opening.{opening_inboxes}
-use Rattle.act_rows.specs.Links.{Inbox, new_inbox}
+use Rattle.first_state.specs.declared.node.NodeState.{NodeState}
+use Rattle.first_model.specs.World.{World, possible_of, possible_acts}
+use Rattle.first_model.specs.Opening.{opening_inboxes}
+use Rattle.base_words.specs.Links.{Inbox, new_inbox}
 
 pub acts_more : (w : World) (senders : List NodeId) (nodes : List NodeState) (i : ℕ) (d : NodeState) (events next whole : List Event) (id : NodeId) → i < length nodes → id ≡ (get_or nodes i d).me → next ≡ events ++ possible_of w (map (event.Act id) senders) → events ++ possible_acts w senders (map (λ (n : NodeState). n.me) (drop i nodes)) ≡ whole → next ++ possible_acts w senders (map (λ (n : NodeState). n.me) (drop (i + 1) nodes)) ≡ whole
 acts_more w senders nodes i d events next whole id inside named added h =

@@ -3,8 +3,8 @@ use Rattle.std.specs.Prelude.{◌≡◌, List, [], ◌∷◌, ◌++◌}
 use Rattle.ignite_types.specs.declared.journal.Event.{Event}
 use Rattle.ignite_types.specs.declared.journal.Group.{Group}
 use Rattle.ignite_types.specs.declared.scenario.Scenario.{Scenario}
-use Rattle.tx_model.specs.Opening.{opening}
-use Rattle.tx_model.specs.World.{World, outcome}
+use Rattle.first_model.specs.Opening.{opening}
+use Rattle.first_model.specs.World.{World, outcome}
 
 pub record Run : Type 0 where
   pub scenario : Scenario

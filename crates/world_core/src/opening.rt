@@ -1,13 +1,13 @@
 //! The world in which a run begins.
 
 ghost use Rattle.std.specs.Prelude.{◌≡◌, [], IfOk, map};
-ghost use Rattle.tx_model.specs.Opening.{homes_from, ids_from, opening_inboxes, opening_node};
+ghost use Rattle.first_model.specs.Opening.{homes_from, ids_from, opening_inboxes, opening_node};
 ghost use Rattle.world_core.specs.Run.{begun};
 
 use crate::world::World;
 use ignite_types::{List, Mem, Member, NodeId, Scenario, Session};
 use link_memory::Inbox;
-use node_core::Node;
+use first_node::Node;
 use ordered_set::Set;
 use ordered_table::Table;
 use plain_copies::Duplicate;

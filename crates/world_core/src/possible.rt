@@ -3,11 +3,11 @@
 ghost use Rattle.std.specs.Prelude.{◌≡◌, ◌++◌, map, OnOk, IfOk};
 ghost use Rattle.std.specs.Option.{option_copied};
 ghost use Rattle.ignite_types.specs.declared.journal.Event.TheVariants as event;
-ghost use Rattle.tx_model.specs.World.{all_over, can_be, enabled, home_of, ids, node_at, possible, possible_acts, possible_of, session_over, sessions};
+ghost use Rattle.first_model.specs.World.{all_over, can_be, enabled, home_of, ids, node_at, possible, possible_acts, possible_of, session_over, sessions};
 
 use crate::world::World;
 use ignite_types::{Event, List, Mem, NodeId};
-use node_core::Node;
+use first_node::Node;
 
 impl World {
     /// The node at this place.

@@ -2,7 +2,7 @@
 
 ghost use Rattle.std.specs.Prelude.{◌≡◌, true, [], ◌∷◌, OnOk, OnErr, IfOk};
 ghost use Rattle.ignite_types.specs.declared.journal.Event.TheVariants as event;
-ghost use Rattle.tx_model.specs.World.{inbox_at, outcome, reaches};
+ghost use Rattle.first_model.specs.World.{inbox_at, outcome, reaches};
 ghost use Rattle.world_core.specs.Run.{KeepsPast, stepped};
 
 use crate::world::World;

@@ -2,12 +2,12 @@
 
 ghost use Rattle.std.specs.Prelude.{◌≡◌, length, position};
 ghost use Rattle.ignite_types.specs.Names.{same_node};
-ghost use Rattle.tx_model.specs.World.{home_of, place_of};
-ghost use Rattle.node_state.specs.declared.node.NodeState.{NodeState};
+ghost use Rattle.first_model.specs.World.{home_of, place_of};
+ghost use Rattle.first_state.specs.declared.node.NodeState.{NodeState};
 
 use ignite_types::{End, Group, Journal, List, NodeId, Scenario};
 use link_memory::Inbox;
-use node_core::Node;
+use first_node::Node;
 use ordered_table::Table;
 use std::alloc::Global;
 use std::marker::Model;

@@ -1,5 +1,5 @@
 use Rattle.std.proofs.Common.{◌≡◌, [], drop}
-use Rattle.tx_model.specs.Opening.{ids_from}
+use Rattle.first_model.specs.Opening.{ids_from}
 use Rattle.world_core.proofs.opening.ids_of.Given as goal
 
 abbrev pub invariant-loop-member : goal.invariant-loop-member

@@ -1,5 +1,5 @@
 use Rattle.std.proofs.Common.{◌≡◌, ◌++◌, drop, map}
-use Rattle.tx_model.specs.Opening.{opening_node}
+use Rattle.first_model.specs.Opening.{opening_node}
 use Rattle.world_core.proofs.opening.nodes_of.Given as goal
 
 abbrev pub invariant-loop-id : goal.invariant-loop-id

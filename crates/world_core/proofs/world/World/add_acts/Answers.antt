@@ -1,6 +1,6 @@
 use Rattle.std.proofs.Common.{ap, ◌∙◌}
-use Rattle.node_state.specs.declared.node.NodeState.{NodeState}
-use Rattle.tx_model.specs.World.{ids}
+use Rattle.first_state.specs.declared.node.NodeState.{NodeState}
+use Rattle.first_model.specs.World.{ids}
 use Rattle.world_core.proofs.ActsLaws.{acts_more}
 use Rattle.world_core.proofs.world.World.add_acts.Goals as goal
 

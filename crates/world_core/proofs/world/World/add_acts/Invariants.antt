@@ -1,6 +1,6 @@
 use Rattle.std.proofs.Common.{◌≡◌, ◌++◌, drop, map}
-use Rattle.node_state.specs.declared.node.NodeState.{NodeState}
-use Rattle.tx_model.specs.World.{ids, possible_acts}
+use Rattle.first_state.specs.declared.node.NodeState.{NodeState}
+use Rattle.first_model.specs.World.{ids, possible_acts}
 use Rattle.world_core.proofs.world.World.add_acts.Given as goal
 
 abbrev pub invariant-loop-node : goal.invariant-loop-node

@@ -1,7 +1,7 @@
 use Rattle.std.proofs.Common.{◌≡◌, ◌++◌, drop, map}
 use Rattle.ignite_types.specs.declared.journal.Event.TheVariants as event
-use Rattle.node_state.specs.declared.node.NodeState.{NodeState}
-use Rattle.tx_model.specs.World.{possible_of}
+use Rattle.first_state.specs.declared.node.NodeState.{NodeState}
+use Rattle.first_model.specs.World.{possible_of}
 use Rattle.world_core.proofs.world.World.add_sends.Given as goal
 
 abbrev pub invariant-loop-node : goal.invariant-loop-node

@@ -1,7 +1,7 @@
 use Rattle.std.proofs.Common.{◌≡◌, drop, map, ℕ}
 use Rattle.std.specs.List.{list_all}
 use Rattle.ignite_types.specs.declared.names.NodeId.{NodeId}
-use Rattle.tx_model.specs.World.{all_over, home_of, node_at, session_over}
+use Rattle.first_model.specs.World.{all_over, home_of, node_at, session_over}
 use Rattle.world_core.proofs.world.World.all_over.Given as goal
 
 abbrev pub invariant-loop-session : goal.invariant-loop-session

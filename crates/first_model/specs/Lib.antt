@@ -1,0 +1,4 @@
+pub mod History
+pub mod Opening
+pub mod Runs
+pub mod World

@@ -1,0 +1,49 @@
+-- What it means that a value was taken out of its table to be changed: a vacant one stands in its place.
+use Rattle.std.specs.Prelude.{◌≡◌, ℕ, List, [], Some, None}
+use Rattle.ignite_types.specs.declared.names.TxId.{TxId}
+use Rattle.ignite_types.specs.declared.scenario.Mode.TheVariants.{Pessimistic}
+use Rattle.first_state.specs.declared.near.TxEntry.{TxEntry}
+use Rattle.first_state.specs.declared.node.NodeState.{NodeState}
+use Rattle.first_state.specs.declared.primary.OwnShare.{OwnShare}
+use Rattle.first_state.specs.declared.session.Desk.{Desk}
+use Rattle.ignite_types.specs.declared.placement.ShareState.TheVariants.{Preparing}
+use Rattle.ignite_types.specs.declared.text.Key.{Key}
+use Rattle.ignite_types.specs.Names.{key_cmp}
+use Rattle.ordered_table.specs.Entries.{at, put}
+use Rattle.first_rows.specs.Commands.{new_desk, new_entry}
+use Rattle.first_rows.specs.Steps.{desk_of, with_desk, entry_of, with_entry, share_of, with_share}
+
+pub record TakesEntry (old new : NodeState) (tx : TxId) (entry : TxEntry) : Type 0 where
+  pub was : entry_of old tx ≡ Some entry
+  pub vacant : new ≡ with_entry old tx (new_entry Pessimistic)
+
+pub record TakesNoEntry (old new : NodeState) (tx : TxId) : Type 0 where
+  pub was : entry_of old tx ≡ None
+  pub same : new ≡ old
+
+pub record TakesDesk (old new : NodeState) (session : ℕ) (desk : Desk) : Type 0 where
+  pub was : desk_of old session ≡ Some desk
+  pub vacant : new ≡ with_desk old session (new_desk [])
+
+pub record TakesNoDesk (old new : NodeState) (session : ℕ) : Type 0 where
+  pub was : desk_of old session ≡ None
+  pub same : new ≡ old
+
+abbrev pub vacant_share : OwnShare
+vacant_share = record { top = record { major = 0; minor = 0 }; shares = []; writes = []; state = Preparing; awaited = []; askers = [] }
+
+pub record TakesShare (old new : NodeState) (tx : TxId) (share : OwnShare) : Type 0 where
+  pub was : share_of old tx ≡ Some share
+  pub vacant : new ≡ with_share old tx vacant_share
+
+pub record TakesNoShare (old new : NodeState) (tx : TxId) : Type 0 where
+  pub was : share_of old tx ≡ None
+  pub same : new ≡ old
+
+pub record TakesQueue (old new : NodeState) (key : Key) (queue : List TxId) : Type 0 where
+  pub was : at key_cmp old.queues key ≡ Some queue
+  pub vacant : new ≡ record old { queues = put key_cmp old.queues key [] }
+
+pub record TakesNoQueue (old new : NodeState) (key : Key) : Type 0 where
+  pub was : at key_cmp old.queues key ≡ None
+  pub same : new ≡ old
