@@ -8,5 +8,6 @@ pub mod FilledAndRemoved
 pub mod FirstBlock
 pub mod LockedAtPrepare
 pub mod PrimaryLost
+pub mod RemovedBeforeSupply
 pub mod RollbackRecovered
 pub mod SumsKept

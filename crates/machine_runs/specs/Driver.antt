@@ -1,15 +1,18 @@
 -- Drivers of the machine, and what a run comes to. The events are taken one after another from the possible ones, and each
 -- event's group is what the machine makes of it.
-use Rattle.std.specs.Prelude.{Bool, List, None, Option, Result, Some, [], if◌then◌else◌, length, map, slice_get, suc, zero, ℕ, ◌+◌, ◌==◌, ◌∷◌}
+use Rattle.std.specs.Prelude.{Bool, List, None, Option, Result, Some, [], if◌then◌else◌, length, map, slice_get, suc, zero, ℕ, ◌++◌, ◌+◌, ◌==◌, ◌∷◌}
 use Rattle.ignite_types.specs.declared.answer.Answer.{Answer}
 use Rattle.ignite_types.specs.declared.journal.Event.{Event}
 use Rattle.ignite_types.specs.declared.journal.Group.{Group}
 use Rattle.ignite_types.specs.declared.journal.Rec.{Rec}
 use Rattle.ignite_types.specs.declared.message.Edge.{Edge}
+use Rattle.ignite_types.specs.declared.message.Message.{Message}
+use Rattle.ignite_types.specs.declared.message.Stored.{Stored}
 use Rattle.ignite_types.specs.declared.message.Wait.{Wait}
 use Rattle.ignite_types.specs.declared.names.TxId.{TxId}
 use Rattle.ignite_types.specs.declared.scenario.Scenario.{Scenario}
 use Rattle.ignite_types.specs.declared.scenario.Session.{Session}
+use Rattle.ignite_types.specs.declared.text.Key.{Key}
 use Rattle.tx_model.specs.History.{Map, commits, records, serial}
 use Rattle.tx_model.specs.Opening.{opening}
 use Rattle.tx_model.specs.Runs.{after}
@@ -17,6 +20,7 @@ use Rattle.tx_model.specs.World.{Outcome, World, all_over, outcome, possible}
 use Rattle.tx_model.specs.declared.history.BadRead.{BadRead}
 use Rattle.tx_model.specs.declared.history.CommitEntry.{CommitEntry}
 use Rattle.ignite_types.specs.declared.journal.Rec.TheVariants as note
+use Rattle.ignite_types.specs.declared.message.Message.TheVariants as msg
 
 -- the event's group stands before those of the later events
 abbrev pub goes_on : Event → Outcome → (World → List Group) → List Group
@@ -35,6 +39,11 @@ groups (suc fuel) w = from_event w (slice_get (possible w) 0) (groups fuel)
 abbrev pub groups_at : List ℕ → ℕ → World → List Group
 groups_at [] fuel w = groups fuel w
 groups_at (place ∷ places) fuel w = from_event w (slice_get (possible w) place) (groups_at places fuel)
+
+-- so many times the first event, then the one at this place
+abbrev pub after_firsts : ℕ → ℕ → List ℕ
+after_firsts zero place = place ∷ []
+after_firsts (suc firsts) place = 0 ∷ after_firsts firsts place
 
 abbrev pub answer_if : ℕ → ℕ → Answer → List Answer → List Answer
 answer_if session to a later = if to == session then a ∷ later else later
@@ -99,3 +108,17 @@ circles_among (r ∷ rs) = circles_among rs
 
 abbrev pub circles : Scenario → List (TxId × List Wait)
 circles s = circles_among (records (run_at [] s))
+
+abbrev pub brought_by : Message → List Stored
+brought_by (msg.BackupPrepare tx top shares primary entries) = entries
+brought_by (msg.Supply top part entries last) = entries
+brought_by _ = []
+
+-- what copies were brought by prepares and supplies, in the order of delivery
+abbrev pub brought_among : List Rec → List (Key × Option (List ℕ))
+brought_among [] = []
+brought_among (note.Deliver from m ∷ rs) = map (λ (e : Stored). (e.key, e.value)) (brought_by m) ++ brought_among rs
+brought_among (r ∷ rs) = brought_among rs
+
+abbrev pub brought_at : List ℕ → Scenario → List (Key × Option (List ℕ))
+brought_at places s = brought_among (records (run_at places s))
