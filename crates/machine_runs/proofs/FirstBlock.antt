@@ -1,4 +1,4 @@
--- One server. A session puts a value in a transaction of its own making, commits, and reads the value afterwards.
+-- One server. A session begins a transaction, puts a value, commits, and reads the value afterwards.
 use Rattle.std.proofs.Common.{[], Ok, refl, true, ◌∷◌, ◌≡◌}
 use Rattle.ignite_types.specs.declared.scenario.Scenario.{Scenario}
 use Rattle.machine_runs.specs.Driver.{Shown, shown}

@@ -66,7 +66,7 @@ decisions (note.Decide tx commit ∷ rs) = (tx, commit) ∷ decisions rs
 decisions (r ∷ rs) = decisions rs
 
 -- what a run comes to: the number of its events, whether each session is over at its end, the answers of each session, the
--- decisions, the history, and the map that it leaves, or the first of its reads that no serial order explains
+-- decisions, the history, and the map that it leaves, or the first read that is not what the entries before it leave
 pub record Shown : Type 0 where
   pub events : ℕ
   pub ended : Bool
