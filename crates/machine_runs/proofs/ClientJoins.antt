@@ -1,0 +1,30 @@
+-- A client joins while A's transaction is open. The version of the join opens only once A has committed at the version before,
+-- and B, which calls between both, waits until then. C reads on the new client.
+use Rattle.std.proofs.Common.{[], Ok, refl, true, ◌∷◌, ◌≡◌}
+use Rattle.ignite_types.specs.declared.scenario.Scenario.{Scenario}
+use Rattle.machine_runs.specs.Driver.{Shown, shown}
+use Rattle.machine_runs.specs.Words.{begin, client, commit, committed, entry, from_moment, get, holds, join, kept, ok, put, scenario, server, session, sleep, tx, value, version}
+
+abbrev client_joins : Scenario
+client_joins = scenario 1024 0 (server 1 ∷ []) (from_moment 10 (join (client 3)) ∷ [])
+    (session "A" 1 (begin ∷ put "a" "1" ∷ sleep 20 ∷ commit ∷ [])
+    ∷ session "B" 1 (sleep 15 ∷ get "a" ∷ [])
+    ∷ session "C" 3 (sleep 30 ∷ get "a" ∷ [])
+    ∷ [])
+
+abbrev comes_to : Shown
+comes_to = record {
+  events = 68;
+  ended = true;
+  answers = (ok ∷ ok ∷ ok ∷ committed ∷ []) ∷ (ok ∷ value "1" ∷ []) ∷ (ok ∷ value "1" ∷ []) ∷ [];
+  decided = (tx 1 1 1, true) ∷ (tx 1 2 1, true) ∷ (tx 3 3 1, true) ∷ [];
+  history =
+      entry (tx 1 1 1) (version 1 0) [] (holds "a" "1" ∷ [])
+      ∷ entry (tx 1 2 1) (version 2 0) (holds "a" "1" ∷ []) []
+      ∷ entry (tx 3 3 1) (version 2 0) (holds "a" "1" ∷ []) []
+      ∷ [];
+  left = Ok (kept "a" "1" ∷ []);
+}
+
+the_version_waits : shown client_joins ≡ comes_to
+the_version_waits = refl

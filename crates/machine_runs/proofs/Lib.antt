@@ -1,0 +1,13 @@
+pub mod BlockedWriter
+pub mod ChangedSinceRead
+pub mod ClientJoins
+pub mod CommitRecovered
+pub mod DeadlockFound
+pub mod EitherOrder
+pub mod FilledAndRemoved
+pub mod FirstBlock
+pub mod LockedAtPrepare
+pub mod PrimaryLost
+pub mod RemovedBeforeSupply
+pub mod RollbackRecovered
+pub mod SumsKept

@@ -1,0 +1,28 @@
+-- A holds a key's lock. B, which is optimistic, reads and writes the key without waiting; its prepare finds the lock, and B is
+-- rolled back while A still sleeps.
+use Rattle.std.proofs.Common.{[], Ok, false, refl, true, ◌∷◌, ◌≡◌}
+use Rattle.ignite_types.specs.declared.scenario.Scenario.{Scenario}
+use Rattle.machine_runs.specs.Driver.{Shown, shown}
+use Rattle.machine_runs.specs.Words.{begin, begin_optimistic, commit, committed, entry, get, holds, kept, locked, none, ok, put, scenario, server, session, sleep, tx, version}
+
+abbrev locked_at_prepare : Scenario
+locked_at_prepare = scenario 1024 0 (server 1 ∷ []) []
+    (session "A" 1 (begin ∷ put "a" "1" ∷ sleep 10 ∷ commit ∷ [])
+    ∷ session "B" 1 (sleep 5 ∷ begin_optimistic ∷ get "a" ∷ put "a" "2" ∷ commit ∷ [])
+    ∷ [])
+
+abbrev comes_to : Shown
+comes_to = record {
+  events = 44;
+  ended = true;
+  answers =
+      (ok ∷ ok ∷ ok ∷ committed ∷ [])
+      ∷ (ok ∷ ok ∷ none ∷ ok ∷ locked "a" (tx 1 1 1) ∷ [])
+      ∷ [];
+  decided = (tx 1 2 1, false) ∷ (tx 1 1 1, true) ∷ [];
+  history = entry (tx 1 1 1) (version 1 0) [] (holds "a" "1" ∷ []) ∷ [];
+  left = Ok (kept "a" "1" ∷ []);
+}
+
+the_prepare_finds_the_lock : shown locked_at_prepare ≡ comes_to
+the_prepare_finds_the_lock = refl

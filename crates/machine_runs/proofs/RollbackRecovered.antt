@@ -1,0 +1,27 @@
+-- A, on a client, writes keys of two primaries and commits. The first primary is prepared; the prepare for the second one is on a
+-- held link when the client is lost. The servers find that a share is missing and roll A back, and B, which has waited for A's
+-- lock, finds nothing.
+use Rattle.std.proofs.Common.{[], Ok, false, refl, true, ◌∷◌, ◌≡◌}
+use Rattle.ignite_types.specs.declared.scenario.Scenario.{Scenario}
+use Rattle.machine_runs.specs.Driver.{Shown, shown}
+use Rattle.machine_runs.specs.Words.{absent, begin, client, commit, entry, from_moment, get, hold, lose, none, ok, put, scenario, server, session, sleep, tx, version}
+
+abbrev rollback_recovered : Scenario
+rollback_recovered = scenario 2 0 (server 1 ∷ server 3 ∷ client 9 ∷ [])
+    (from_moment 5 (hold 9 3) ∷ from_moment 20 (lose 9) ∷ [])
+    (session "A" 9 (begin ∷ put "a" "1" ∷ put "b" "2" ∷ sleep 10 ∷ commit ∷ [])
+    ∷ session "B" 1 (sleep 15 ∷ get "a" ∷ [])
+    ∷ [])
+
+abbrev comes_to : Shown
+comes_to = record {
+  events = 68;
+  ended = true;
+  answers = (ok ∷ ok ∷ ok ∷ ok ∷ []) ∷ (ok ∷ none ∷ []) ∷ [];
+  decided = (tx 9 1 1, false) ∷ (tx 1 2 1, true) ∷ [];
+  history = entry (tx 1 2 1) (version 1 0) (absent "a" ∷ []) [] ∷ [];
+  left = Ok [];
+}
+
+the_servers_roll_back : shown rollback_recovered ≡ comes_to
+the_servers_roll_back = refl

@@ -1,0 +1,169 @@
+-- Words in which scenarios, and what their runs come to, read well. All keys are in the one cache.
+use Prim.Native.String.{String}
+use Rattle.std.specs.Prelude.{List, None, Option, Some, [], codes, false, pos, true, ℕ, ◌-ℤ◌, ◌∷◌}
+use Rattle.ignite_types.specs.declared.answer.Answer.{Answer}
+use Rattle.ignite_types.specs.declared.message.Wait.{Wait}
+use Rattle.ignite_types.specs.declared.names.NodeId.{NodeId}
+use Rattle.ignite_types.specs.declared.names.TopVer.{TopVer}
+use Rattle.ignite_types.specs.declared.names.TxId.{TxId}
+use Rattle.ignite_types.specs.declared.scenario.Item.{Item}
+use Rattle.ignite_types.specs.declared.scenario.Member.{Member}
+use Rattle.ignite_types.specs.declared.scenario.PlanStep.{PlanStep}
+use Rattle.ignite_types.specs.declared.scenario.Scenario.{Scenario}
+use Rattle.ignite_types.specs.declared.scenario.Session.{Session}
+use Rattle.ignite_types.specs.declared.scenario.Step.{Step}
+use Rattle.ignite_types.specs.declared.text.Key.{Key}
+use Rattle.tx_model.specs.declared.history.CommitEntry.{CommitEntry}
+use Rattle.ignite_types.specs.declared.answer.Answer.TheVariants as answer
+use Rattle.ignite_types.specs.declared.answer.Fail.TheVariants as fail
+use Rattle.ignite_types.specs.declared.answer.Fault.TheVariants as fault
+use Rattle.ignite_types.specs.declared.scenario.Command.TheVariants as command
+use Rattle.ignite_types.specs.declared.scenario.Item.TheVariants as item
+use Rattle.ignite_types.specs.declared.scenario.Mode.TheVariants as mode
+use Rattle.ignite_types.specs.declared.scenario.Step.TheVariants as step
+
+-- Names.
+
+abbrev pub key : String → Key
+key text = record { cache = 0; text = codes text }
+
+abbrev pub node : ℕ → NodeId
+node number = record { 0 = number }
+
+abbrev pub version : ℕ → ℕ → TopVer
+version major minor = record { major = major; minor = minor }
+
+-- the session's transaction with this number, on this node
+abbrev pub tx : ℕ → ℕ → ℕ → TxId
+tx on session number = record { node = node on; session = session; number = number }
+
+-- Scenarios.
+
+abbrev pub server : ℕ → Member
+server number = record { node = node number; server = true }
+
+abbrev pub client : ℕ → Member
+client number = record { node = node number; server = false }
+
+abbrev pub join : Member → Step
+join member = step.Join member
+
+abbrev pub lose : ℕ → Step
+lose number = step.Lose (node number)
+
+-- the link from one node to another
+abbrev pub hold : ℕ → ℕ → Step
+hold from to = step.Hold (node from) (node to)
+
+abbrev pub release : ℕ → ℕ → Step
+release from to = step.Release (node from) (node to)
+
+abbrev pub from_moment : ℕ → Step → PlanStep
+from_moment moment s = record { moment = moment; step = s }
+
+abbrev pub begin : Item
+begin = item.Plain (command.Begin mode.Pessimistic 0)
+
+-- with a timeout
+abbrev pub begin_within : ℕ → Item
+begin_within moments = item.Plain (command.Begin mode.Pessimistic moments)
+
+abbrev pub begin_optimistic : Item
+begin_optimistic = item.Plain (command.Begin mode.Optimistic 0)
+
+abbrev pub get : String → Item
+get text = item.Plain (command.Get (key text))
+
+abbrev pub put : String → String → Item
+put text value = item.Plain (command.Put (key text) (codes value))
+
+abbrev pub remove : String → Item
+remove text = item.Plain (command.Remove (key text))
+
+-- adds a number to the key's value
+abbrev pub give : String → ℕ → Item
+give text sum = item.Plain (command.Add (key text) (pos sum))
+
+-- adds its negative
+abbrev pub take : String → ℕ → Item
+take text sum = item.Plain (command.Add (key text) (pos 0 -ℤ pos sum))
+
+abbrev pub commit : Item
+commit = item.Plain command.Commit
+
+abbrev pub sleep : ℕ → Item
+sleep moments = item.Plain (command.Sleep moments)
+
+abbrev pub session : String → ℕ → List Item → Session
+session name on commands = record { name = codes name; node = node on; commands = commands }
+
+-- one cache with so many partitions and backups, and no near entries
+abbrev pub scenario : ℕ → ℕ → List Member → List PlanStep → List Session → Scenario
+scenario parts backups nodes plan sessions = record {
+  format = 1;
+  caches = record {
+    name = codes "default";
+    parts = parts;
+    backups = backups;
+    near = 0;
+    first = true;
+    «data» = false;
+  } ∷ [];
+  nodes = nodes;
+  plan = plan;
+  sessions = sessions;
+}
+
+-- What runs come to.
+
+abbrev pub ok : Answer
+ok = answer.Done
+
+abbrev pub value : String → Answer
+value text = answer.Found (codes text)
+
+abbrev pub none : Answer
+none = answer.Absent
+
+abbrev pub committed : Answer
+committed = answer.Committed
+
+abbrev pub skipped : Answer
+skipped = answer.Skipped
+
+-- the primary of one of its keys was lost
+abbrev pub node_lost : ℕ → Answer
+node_lost number = answer.Failed (fault.NodeLost (node number))
+
+abbrev pub deadlock : Answer
+deadlock = answer.Failed fault.Deadlock
+
+-- another transaction holds the key
+abbrev pub locked : String → TxId → Answer
+locked text holder = answer.Failed (fault.Check (fail.Candidate (key text) holder))
+
+-- the key was read with the order `had` and has the order `has`, both drawn at version 1.0 by node 1
+abbrev pub changed : String → ℕ → ℕ → Answer
+changed text had has = answer.Failed (fault.Check (fail.Changed
+    (key text)
+    (record { top = version 1 0; order = had; node = node 1 })
+    (record { top = version 1 0; order = has; node = node 1 })))
+
+-- a read or a write of a value
+abbrev pub holds : String → String → Key × Option (List ℕ)
+holds text value = (key text, Some (codes value))
+
+-- a read that found nothing, or a removal
+abbrev pub absent : String → Key × Option (List ℕ)
+absent text = (key text, None)
+
+abbrev pub entry : TxId → TopVer → List (Key × Option (List ℕ)) → List (Key × Option (List ℕ)) → CommitEntry
+entry name top reads writes = record { tx = name; top = top; reads = reads; writes = writes }
+
+-- a transaction waits at a key for the one that holds it
+abbrev pub waits : String → TxId → TxId → Wait
+waits text waiter holder = record { key = key text; waiter = waiter; holder = holder }
+
+-- a key of the map with its value
+abbrev pub kept : String → String → Key × List ℕ
+kept text value = (key text, codes value)
