@@ -17,6 +17,14 @@ const EMPTY: &str = "scenario 1\nserver 1\nsession A 1\nend\n";
 const EMPTY_REPORT: &str =
     "session A on 1\nplan 0\ndeadlocks 0\nhistory 0\nmap 0\ntop 1.0\nend 0\n";
 
+/// Texts that are refused: three that are no scenarios, and one whose second server is not run yet.
+const REFUSED: [(&str, &str); 4] = [
+    ("", "refused line 1: missing\n"),
+    ("scenario 1\nserver 1\nsession A 1\nput a", "refused line 4: syntax\n"),
+    ("fly\n", "refused line 1: unknown word\n"),
+    ("scenario 1\nserver 1\nserver 2\n", "refused line 0: not yet\n"),
+];
+
 /// What a call ends with over memory, with these calls of the source and of the sink failing.
 fn outcome(
     alloc: Global,
@@ -59,10 +67,10 @@ fn faults_of_the_streams(rt: HostRuntime) -> Result<(), Fail> {
 
 #[test]
 fn texts_that_are_refused(rt: HostRuntime) -> Result<(), Fail> {
-    for text in ["", "scenario 1\nserver 1\nsession A 1\nput a", "fly\n"] {
+    for (text, line) in REFUSED {
         let (status, sink) = outcome(rt.alloc(), text, &[], 1000, &[])?;
         assert_eq!(rt; status, Status::Refused);
-        assert_eq!(rt; sink.bytes(), b"refused line 0: not yet\n".as_slice());
+        assert_eq!(rt; sink.bytes(), line.as_bytes());
     }
     Ok(())
 }

@@ -107,6 +107,9 @@ abbrev pub opening_part : Scenario → PartMap → NodeId → Part
 opening_part scenario m id = let initial = is_member scenario.nodes id in
     record { node = opening_node scenario m id initial; life = if initial then life.Alive else life.Absent }
 
+abbrev pub opening_parts : Scenario → PartMap → List NodeId → List Part
+opening_parts scenario m ids = map (opening_part scenario m) ids
+
 -- an empty inbox for each node
 abbrev pub opening_inboxes : List NodeId → List NodeId → List Inbox
 opening_inboxes senders ids = map (λ (id : NodeId). new_inbox senders) ids
@@ -114,7 +117,7 @@ opening_inboxes senders ids = map (λ (id : NodeId). new_inbox senders) ids
 abbrev pub opening_with : Scenario → PartMap → World
 opening_with scenario m = record {
   directory = opening_directory scenario;
-  parts = map (opening_part scenario m) (ids_of scenario);
+  parts = opening_parts scenario m (ids_of scenario);
   inboxes = opening_inboxes (ids_of scenario) (ids_of scenario);
   homes = homes_from 1 [] scenario.sessions;
   broken = false;
