@@ -6,8 +6,8 @@ ghost use Rattle.first_rows.specs.NearSide.{closing_answer};
 ghost use Rattle.first_rows.specs.Steps.{desk_of};
 
 use crate::node::Node;
-use ignite_types::{Answer, Command, List, Mem, Rec, TxId};
 use first_state::TxState;
+use ignite_types::{Answer, Command, List, Mem, Rec, TxId};
 
 /// What a session is answered when its transaction has ended.
 fn closing_answer(state: TxState, outcome: &Option<Answer>) -> Answer

@@ -7,11 +7,11 @@ ghost use Rattle.first_rows.specs.Steps.{entry_of, primary_of};
 ghost use Rattle.first_rows.specs.NearSide.{access_done, accesses, answer_of, commits, decided_state, decides, does, finish_outs, is_at, known, new_key, no_cache, prepare_outs, read_of, shares_from, shares_of, value_at, value_before, version_read, wanted_at, with_row_of, with_shares, writes_at};
 
 use crate::node::Node;
+use first_state::{Read, TxEntry, TxState};
 use ignite_types::{
     Answer, CacheVersion, Command, Found, Key, List, Mem, Message, NodeId, Out, PartMap, Rec, Row,
     Share, TopVer, TxId, Value, Wanted,
 };
-use first_state::{Read, TxEntry, TxState};
 use ordered_set::Set;
 use std::alloc::Global;
 

@@ -7,8 +7,8 @@ ghost use Rattle.first_model.specs.Opening.{desks_on, empty_copies, opening_map_
 ghost use Rattle.first_model.specs.World.{desk_over};
 
 use crate::rows::next_of;
-use ignite_types::{Cache, List, Mem, Member, NodeId, PartMap, Row, Scenario, Session, TopVer};
 use first_state::{Desk, NodeState, Store};
+use ignite_types::{Cache, List, Mem, Member, NodeId, PartMap, Row, Scenario, Session, TopVer};
 use ordered_table::Table;
 use part_map::opening_map;
 use std::alloc::Global;

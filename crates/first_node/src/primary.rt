@@ -7,11 +7,11 @@ ghost use Rattle.first_rows.specs.Steps.{share_of, with_share};
 ghost use Rattle.first_node.specs.Taking.{TakesNoShare, TakesShare, vacant_share};
 
 use crate::node::Node;
+use first_state::OwnShare;
 use ignite_types::{
     CacheVersion, Key, List, Mem, Message, NodeId, Out, Rec, Share, ShareState, Stored, TopVer,
     TxId, Value,
 };
-use first_state::OwnShare;
 use ordered_set::Set;
 use ordered_table::Table;
 use std::alloc::Global;

@@ -7,8 +7,8 @@ ghost use Rattle.first_rows.specs.Commands.{access, answer_row, begins, call_row
 
 use crate::near::read_of;
 use crate::node::Node;
-use ignite_types::{Answer, Command, Found, Item, Key, Mem, Mode, NodeId, Rec, TopVer, TxId};
 use first_state::{Desk, TxState};
+use ignite_types::{Answer, Command, Found, Item, Key, Mem, Mode, NodeId, Rec, TopVer, TxId};
 
 /// The command that the session would give next, where none is pending.
 pub(crate) fn next_of(desk: &Desk) -> Option<Command>

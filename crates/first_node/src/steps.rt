@@ -8,10 +8,10 @@ ghost use Rattle.first_node.specs.Taking.{TakesDesk, TakesEntry, TakesNoDesk, Ta
 ghost use Rattle.first_rows.specs.NearSide.{begins_phase, ended, fixes_version, keeps_read, keeps_write, no_longer, takes_outcome, takes_state, touches};
 
 use crate::node::Node;
+use first_state::{Desk, Read, TxEntry, TxState};
 use ignite_types::{
     Answer, Command, Key, List, Mem, Message, Mode, NodeId, Out, Rec, TopVer, TxId, Value,
 };
-use first_state::{Desk, Read, TxEntry, TxState};
 use ordered_set::Set;
 use ordered_table::Table;
 use std::alloc::Global;

@@ -4,8 +4,8 @@ ghost use Rattle.std.specs.Prelude.{◌≡◌, OnOk, slice_set};
 ghost use Rattle.first_rows.specs.Stores.{applied_to, copy_at, found_at, found_in, kept, partition, stored};
 
 use crate::node::Node;
-use ignite_types::{Found, Key, List, Mem, Stored};
 use first_state::{Entry, Store};
+use ignite_types::{Found, Key, List, Mem, Stored};
 use std::cmp::Ordering;
 use std::mem;
 

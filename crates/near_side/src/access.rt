@@ -10,9 +10,7 @@ use crate::nears::{near_entry, near_of, put_near, with_front};
 use crate::preparing::commit;
 use crate::values::{access_key, answer_of};
 use base_words::NearEntry;
-use ignite_types::{
-    Answer, Command, Fault, Key, Mem, Message, Mode, NodeId, TopVer, TxId, Value,
-};
+use ignite_types::{Answer, Command, Fault, Key, Mem, Message, Mode, NodeId, TopVer, TxId, Value};
 use node_state::Read;
 use node_steps::Node;
 use session_scripts::added;

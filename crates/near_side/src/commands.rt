@@ -79,7 +79,13 @@ fn begin(
 }
 
 /// A command of a transaction without a fault: rollback and close need no version, any other waits for the start.
-fn in_sound(node: &mut Node, tx: TxId, block: bool, command: &Command, top: Option<TopVer>) -> Mem<()>
+fn in_sound(
+    node: &mut Node,
+    tx: TxId,
+    block: bool,
+    command: &Command,
+    top: Option<TopVer>,
+) -> Mem<()>
     ensures { OnOk result (node.new ≡ in_sound node.old tx block command.now top) }
 {
     match (command, top) {

@@ -32,7 +32,11 @@ pub(crate) fn near_entry(near: &[NearEntry], key: &Key) -> Option<NearEntry>
 }
 
 /// The near cache with this entry in front, in place of one of its key.
-pub(crate) fn with_front(alloc: Global, near: &[NearEntry], front: &NearEntry) -> Mem<List<NearEntry>>
+pub(crate) fn with_front(
+    alloc: Global,
+    near: &[NearEntry],
+    front: &NearEntry,
+) -> Mem<List<NearEntry>>
     ensures { IfOk result (λ next. next ≡ near_front near.now front.now) }
 {
     let mut next = List::new(alloc);
@@ -73,7 +77,12 @@ fn is_updated(key: &Key, ver: CacheVersion, entry: &NearEntry) -> bool
 }
 
 /// The near cache without an older entry of a key that was removed.
-fn without_older(alloc: Global, near: &[NearEntry], key: &Key, ver: CacheVersion) -> Mem<List<NearEntry>>
+fn without_older(
+    alloc: Global,
+    near: &[NearEntry],
+    key: &Key,
+    ver: CacheVersion,
+) -> Mem<List<NearEntry>>
     ensures { IfOk result (λ next. next ≡ others_than near.now key.now ver) }
 {
     let mut next = List::new(alloc);

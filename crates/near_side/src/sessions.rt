@@ -17,7 +17,13 @@ fn next_of(desk: &Desk) -> Option<Command>
         Some(_) => None,
         None => match command_at(desk.script.as_slice(), &desk.progress) {
             Some(command) => Some(command),
-            None => { if desk.block { Some(Command::Close) } else { None } }
+            None => {
+                if desk.block {
+                    Some(Command::Close)
+                } else {
+                    None
+                }
+            }
         },
     }
 }
@@ -44,7 +50,13 @@ fn slept(now: u64, wake: Option<u64>) -> Option<Answer>
     ensures { result ≡ slept now wake }
 {
     match wake {
-        Some(wake) => { if wake <= now { Some(Answer::Done) } else { None } }
+        Some(wake) => {
+            if wake <= now {
+                Some(Answer::Done)
+            } else {
+                None
+            }
+        }
         None => None,
     }
 }

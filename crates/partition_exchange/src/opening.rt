@@ -5,8 +5,8 @@ ghost use Rattle.act_rows.specs.Exchange.{demand_outs, demands, demands_of, open
 ghost use Rattle.act_rows.specs.Steps.{rows_of};
 ghost use Rattle.ignite_types.specs.Placement.{first_owner};
 
-use near_side::start_all;
 use ignite_types::{List, Mem, Message, NodeId, Out, Rec, Row, TopVer};
+use near_side::start_all;
 use node_steps::{Node, has_node};
 use std::alloc::Global;
 

@@ -5,11 +5,11 @@ ghost use Rattle.first_model.specs.History.{wrote, written, map_after};
 ghost use Rattle.report_text.specs.Report.{count_line, value_text, change_text, more_changes, changes_text, commit_name, footprint_text, history_line, history_lines, history_part, map_line, map_lines, map_part};
 
 use crate::answers::{write_top, write_tx};
+use first_model::CommitEntry;
 use ignite_types::{Key, Mem, Scenario, Value};
 use ordered_table::Table;
 use scen_text::{TextOut, write_key};
 use std::alloc::Global;
-use first_model::CommitEntry;
 
 /// Writes a word and a number, as a line.
 pub fn write_count(out: &mut TextOut, word: &str, count: u64) -> Mem<()>

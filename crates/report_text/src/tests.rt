@@ -1,4 +1,5 @@
 use crate::{report, write_answer};
+use first_model::CommitEntry;
 use ignite_types::{
     Answer, Cache, CacheVersion, Command, End, Event, Fail as Failure, Fault, Group, Item, Journal,
     Key, List, Mem, Mode, NodeId, Rec, Scenario, Session, TopVer, TxId, Value,
@@ -6,7 +7,6 @@ use ignite_types::{
 use scen_text::TextOut;
 use std::alloc::Global;
 use std::test::Fail;
-use first_model::CommitEntry;
 
 const TOP: TopVer = TopVer { major: 1, minor: 0 };
 

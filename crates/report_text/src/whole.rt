@@ -6,11 +6,11 @@ ghost use Rattle.report_text.specs.Report.{later, top_among, top_in, first_top, 
 use crate::answers::write_top;
 use crate::history::{write_count, write_history, write_map};
 use crate::sessions::write_sessions;
+use first_model::CommitEntry;
 use ignite_types::{End, Group, Journal, Mem, Rec, TopVer};
 use scen_text::TextOut;
 use std::alloc::Global;
 use std::cmp::Ordering;
-use first_model::CommitEntry;
 
 /// The later of two versions.
 fn later(a: TopVer, b: TopVer) -> TopVer

@@ -7,12 +7,12 @@ ghost use Rattle.scen_text.specs.Causes.{Reads};
 ghost use Rattle.sim_top.specs.Sim.{Comes, LineSays, Means, RefusalSays, RunSays, Runs, read_fault_text, runnable, usage_text};
 
 use crate::drive::drive;
+use first_model::commits;
 use host_io::{ReadEnd, Source, read_all};
 use ignite_types::{End, Journal, List, Mem, NoMemory, Scenario, Status};
 use report_text::report;
 use scen_text::{Cause, ReadFault, not_yet, read_scenario, refusal_line};
 use std::alloc::Global;
-use first_model::commits;
 use world_core::World;
 
 /// What a call with any word is told.

@@ -20,9 +20,15 @@ const EMPTY_REPORT: &str =
 /// Texts that are refused: three that are no scenarios, and one whose second server is not run yet.
 const REFUSED: [(&str, &str); 4] = [
     ("", "refused line 1: missing\n"),
-    ("scenario 1\nserver 1\nsession A 1\nput a", "refused line 4: syntax\n"),
+    (
+        "scenario 1\nserver 1\nsession A 1\nput a",
+        "refused line 4: syntax\n",
+    ),
     ("fly\n", "refused line 1: unknown word\n"),
-    ("scenario 1\nserver 1\nserver 2\n", "refused line 0: not yet\n"),
+    (
+        "scenario 1\nserver 1\nserver 2\n",
+        "refused line 0: not yet\n",
+    ),
 ];
 
 /// What a call ends with over memory, with these calls of the source and of the sink failing.

@@ -45,13 +45,7 @@ pub fn finishes_for_lost(
     let mut outs = List::new(node.alloc);
     for primary in primaries {
         let holders = node.live_holders(shares, *primary)?;
-        outs.append(backup_finish_outs(
-            node.alloc,
-            tx,
-            *primary,
-            commit,
-            holders.as_slice(),
-        )?)?;
+        outs.append(backup_finish_outs(node.alloc, tx, *primary, commit, holders.as_slice())?)?;
     }
     Ok(outs)
 }
@@ -64,13 +58,7 @@ fn decision_outs(node: &Node, tx: TxId, commit: bool, entry: &TxEntry) -> Mem<Li
     let live = node.live_among(asked)?;
     let lost = node.lost_among(asked)?;
     let mut outs = outs_to(node.alloc, live.as_slice(), &Message::Finish { tx, commit })?;
-    outs.append(finishes_for_lost(
-        node,
-        tx,
-        commit,
-        entry.shares.as_slice(),
-        lost.as_slice(),
-    )?)?;
+    outs.append(finishes_for_lost(node, tx, commit, entry.shares.as_slice(), lost.as_slice())?)?;
     Ok(outs)
 }
 

@@ -211,12 +211,7 @@ fn judge(
     }
 }
 
-fn judge_each(
-    node: &mut Node,
-    members: &[Member],
-    reports: &[Report],
-    txs: &[TxId],
-) -> Mem<()>
+fn judge_each(node: &mut Node, members: &[Member], reports: &[Report], txs: &[TxId]) -> Mem<()>
     ensures { OnOk result (node.new ≡ judges_each node.old members.now reports.now txs.now) }
 {
     for tx in txs {

@@ -5,9 +5,9 @@ ghost use Rattle.first_model.specs.Opening.{homes_from, ids_from, opening_inboxe
 ghost use Rattle.world_core.specs.Run.{begun};
 
 use crate::world::World;
+use first_node::Node;
 use ignite_types::{List, Mem, Member, NodeId, Scenario, Session};
 use link_memory::Inbox;
-use first_node::Node;
 use ordered_set::Set;
 use ordered_table::Table;
 use plain_copies::Duplicate;

@@ -6,8 +6,8 @@ ghost use Rattle.ignite_types.specs.declared.journal.Event.TheVariants as event;
 ghost use Rattle.first_model.specs.World.{all_over, can_be, enabled, home_of, ids, node_at, possible, possible_acts, possible_of, session_over, sessions};
 
 use crate::world::World;
-use ignite_types::{Event, List, Mem, NodeId};
 use first_node::Node;
+use ignite_types::{Event, List, Mem, NodeId};
 
 impl World {
     /// The node at this place.

@@ -5,9 +5,9 @@ ghost use Rattle.ignite_types.specs.Names.{same_node};
 ghost use Rattle.first_model.specs.World.{home_of, place_of};
 ghost use Rattle.first_state.specs.declared.node.NodeState.{NodeState};
 
+use first_node::Node;
 use ignite_types::{End, Group, Journal, List, NodeId, Scenario};
 use link_memory::Inbox;
-use first_node::Node;
 use ordered_table::Table;
 use std::alloc::Global;
 use std::marker::Model;
