@@ -75,3 +75,19 @@ too_long_comes words r status.Refused j text none more says = (none, record { re
 too_long_comes words r status.Memory j text none more says = says
 too_long_comes words r status.ReadFault j text none more says = absurd says
 too_long_comes words r status.WriteFault j text none more says = absurd says
+
+-- what holds of the bytes that were read holds of those that were told
+of_told : (before : Option (List ℕ)) (P : List ℕ → Type 0) (bytes : List ℕ) → IfSome before (λ told. bytes ≡ told) → P bytes → IfSome before P
+of_told None P bytes read holds = tt
+of_told (Some told) P bytes read holds = subst P read holds
+
+-- a call comes to what the bytes that were read mean
+pub meant_comes : (words : ℕ) (r : Reading) (s : Status) (j : Journal) (text bytes : List ℕ) → words ≡ 0 → IsAtEnd r.after → IfSome r.before (λ told. bytes ≡ told) → Means bytes s j text → Comes words r s j text
+meant_comes words r status.AllEnded j text bytes none ended read means = (none, record { read_out = ended; means = of_told r.before (λ told. Means told status.AllEnded j text) bytes read means; runs = (means.1, means.2) })
+meant_comes words r status.Stalled j text bytes none ended read means = (none, record { read_out = ended; means = of_told r.before (λ told. Means told status.Stalled j text) bytes read means; runs = (means.1, means.2) })
+meant_comes words r status.StepLimit j text bytes none ended read means = (none, record { read_out = ended; means = of_told r.before (λ told. Means told status.StepLimit j text) bytes read means; runs = (means.1, means.2) })
+meant_comes words r status.Usage j text bytes none ended read means = absurd means
+meant_comes words r status.Refused j text bytes none ended read means = (none, record { refused = of_told r.before (λ told. IsRefused told text) bytes read means.0; no_run = means.1 })
+meant_comes words r status.Memory j text bytes none ended read means = means
+meant_comes words r status.ReadFault j text bytes none ended read means = absurd means
+meant_comes words r status.WriteFault j text bytes none ended read means = absurd means
