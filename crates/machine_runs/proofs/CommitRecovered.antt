@@ -3,7 +3,7 @@
 -- at the next version, finds A's value. A has no answer to its commit.
 use Rattle.std.proofs.Common.{[], Ok, refl, true, ◌∷◌, ◌≡◌}
 use Rattle.ignite_types.specs.declared.scenario.Scenario.{Scenario}
-use Rattle.machine_runs.specs.Driver.{Shown, shown}
+use Rattle.machine_runs.specs.Driver.{Shown, laws_hold, shown}
 use Rattle.machine_runs.specs.Words.{begin, client, commit, entry, from_moment, get, hold, holds, kept, lose, ok, put, scenario, server, session, sleep, tx, value, version}
 
 abbrev commit_recovered : Scenario
@@ -28,3 +28,6 @@ comes_to = record {
 
 the_servers_commit : shown commit_recovered ≡ comes_to
 the_servers_commit = refl
+
+the_laws_hold : laws_hold commit_recovered ≡ true
+the_laws_hold = refl

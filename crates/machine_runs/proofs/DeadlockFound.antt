@@ -2,7 +2,7 @@
 -- waits, A is rolled back, and B goes on and commits.
 use Rattle.std.proofs.Common.{[], Ok, false, refl, true, ◌∷◌, ◌≡◌}
 use Rattle.ignite_types.specs.declared.scenario.Scenario.{Scenario}
-use Rattle.machine_runs.specs.Driver.{Shown, circles, shown}
+use Rattle.machine_runs.specs.Driver.{Shown, circles, laws_hold, shown}
 use Rattle.machine_runs.specs.Words.{begin, begin_within, commit, committed, deadlock, entry, holds, kept, ok, put, scenario, server, session, skipped, sleep, tx, version, waits}
 
 abbrev deadlock_found : Scenario
@@ -27,3 +27,6 @@ one_of_both_commits = refl
 -- each waits for the other
 both_wait : circles deadlock_found ≡ (tx 1 1 1, waits "y" (tx 1 1 1) (tx 1 2 1) ∷ waits "x" (tx 1 2 1) (tx 1 1 1) ∷ []) ∷ []
 both_wait = refl
+
+the_laws_hold : laws_hold deadlock_found ≡ true
+the_laws_hold = refl

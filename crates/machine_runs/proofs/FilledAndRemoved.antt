@@ -3,7 +3,7 @@
 -- Then the new server is the primary: C finds B's value, and nothing at the removed key.
 use Rattle.std.proofs.Common.{[], Ok, refl, true, ◌∷◌, ◌≡◌}
 use Rattle.ignite_types.specs.declared.scenario.Scenario.{Scenario}
-use Rattle.machine_runs.specs.Driver.{Shown, brought_at, shown}
+use Rattle.machine_runs.specs.Driver.{Shown, brought_at, laws_hold, shown}
 use Rattle.machine_runs.specs.Words.{absent, begin, commit, committed, entry, from_moment, get, hold, holds, join, kept, none, ok, put, release, remove, scenario, server, session, sleep, tx, value, version}
 
 abbrev filled_and_removed : Scenario
@@ -46,3 +46,6 @@ the_removal_stays = refl
 -- the supply comes before the prepare of the removal
 first_the_old_entries : brought_at [] filled_and_removed ≡ holds "a" "1" ∷ holds "b" "1" ∷ holds "a" "2" ∷ absent "b" ∷ []
 first_the_old_entries = refl
+
+the_laws_hold : laws_hold filled_and_removed ≡ true
+the_laws_hold = refl
