@@ -1,0 +1,6 @@
+use Rattle.std.proofs.Common.{drop, ◌++◌, ◌≡◌}
+use Rattle.tx_model.specs.Opening.{empty_copies}
+use Rattle.node_core.proofs.opening.empty_copies.Given as goal
+
+abbrev pub invariant-loop-row : goal.invariant-loop-row
+invariant-loop-row l = l.copies ++ empty_copies (drop l._row-index l.rows) ≡ empty_copies l.rows

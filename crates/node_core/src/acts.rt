@@ -1,0 +1,169 @@
+//! The acts of a node.
+
+ghost use Rattle.std.specs.Prelude.{◌≡◌, [], OnOk, IfOk};
+ghost use Rattle.std.specs.Option.{option_copied};
+ghost use Rattle.act_rows.specs.Acts.{answer_act, begun, brings, call_act, expire_act, join_act, message_act, message_row, minor_act, oldest_out, see_act, see_row, send_act};
+ghost use Rattle.act_rows.specs.Closing.{closed};
+
+use crate::closing::close;
+use crate::messages::on_message;
+use deadlock_search::{on_expire, search_saw_leave};
+use ignite_types::{List, Mem, Message, NodeId, Out, Rec, TopoEvent, TxId};
+use near_side::{on_answer, on_call};
+use node_steps::Node;
+use partition_exchange::{learn, learn_all};
+use prepare_finish::primary_saw_leave;
+use std::mem;
+use tx_decisions::near_side_saw_leave;
+use tx_recovery::begin_round;
+
+/// An act begins: it counts, and nothing is noted yet.
+fn begin_act(node: &mut Node)
+    ensures { node.new ≡ begun node.old }
+{
+    node.state.acts = node.state.acts.saturating_add(1);
+    node.state.noted = List::new(node.alloc);
+}
+
+/// What the act has noted is taken.
+fn take_notes(node: &mut Node) -> List<Rec>
+    ensures notes { result ≡ node.old.noted }
+    ensures rest { node.new ≡ record node.old { noted = [] } }
+{
+    mem::replace(&mut node.state.noted, List::new(node.alloc))
+}
+
+/// What a message does, with the closing rules at its end.
+fn act_on(node: &mut Node, from: NodeId, message: &Message) -> Mem<()>
+    ensures { OnOk result (node.new ≡ closed (message_row (begun node.old) from message.now)) }
+{
+    begin_act(node);
+    on_message(node, from, message)?;
+    close(node)
+}
+
+/// Takes a message. Answers the records of the act.
+pub fn take_message(node: &mut Node, from: NodeId, message: Message) -> Mem<List<Rec>>
+    ensures state { OnOk result (node.new ≡ (message_act node.old from message).state) }
+    ensures recs { IfOk result (λ recs. recs ≡ (message_act node.old from message).recs) }
+{
+    act_on(node, from, &message)?;
+    let notes = take_notes(node);
+    let mut recs = List::with_capacity(node.alloc, notes.len() + 1)?;
+    recs.push(Rec::Deliver { from, message })?;
+    recs.append(notes)?;
+    Ok(recs)
+}
+
+/// What seeing an event brings beside its version: a loss ends waits and begins a recovery.
+fn bring(node: &mut Node, place: u64, event: &TopoEvent) -> Mem<()>
+    ensures { OnOk result (node.new ≡ brings node.old place event.now) }
+{
+    match event {
+        TopoEvent::Left(lost) => {
+            near_side_saw_leave(node, *lost)?;
+            primary_saw_leave(node, *lost)?;
+            begin_round(node, place)?;
+            search_saw_leave(node, *lost)
+        }
+        _ => Ok(()),
+    }
+}
+
+/// The next topology event is read.
+fn see_event(node: &mut Node, event: &TopoEvent) -> Mem<()>
+    ensures { OnOk result (node.new ≡ see_row node.old node.old.read event.now) }
+{
+    let place = node.state.read;
+    learn(node, event)?;
+    node.note(Rec::See {
+        place: place as usize,
+    })?;
+    bring(node, place, event)
+}
+
+/// What seeing the next topology event does, with the closing rules at its end.
+fn see_on(node: &mut Node, event: &TopoEvent) -> Mem<()>
+    ensures { OnOk result (node.new ≡ closed (see_row (begun node.old) node.old.read event.now)) }
+{
+    begin_act(node);
+    see_event(node, event)?;
+    close(node)
+}
+
+/// Reads the next topology event. Answers the records of the act.
+pub fn see(node: &mut Node, event: &TopoEvent) -> Mem<List<Rec>>
+    ensures state { OnOk result (node.new ≡ (see_act node.old event.now).state) }
+    ensures recs { IfOk result (λ recs. recs ≡ (see_act node.old event.now).recs) }
+{
+    see_on(node, event)?;
+    Ok(take_notes(node))
+}
+
+/// Joins: learns the events before its own Join and the clock, and reads that Join. Answers the records of the act.
+pub fn join(node: &mut Node, events: &[TopoEvent], now: u64, own: &TopoEvent) -> Mem<List<Rec>>
+    ensures state { OnOk result (node.new ≡ (join_act node.old events.now now own.now).state) }
+    ensures recs { IfOk result (λ recs. recs ≡ (join_act node.old events.now now own.now).recs) }
+{
+    learn_all(node, events, now)?;
+    see(node, own)
+}
+
+/// The deadline of a transaction was reached. Answers the records of the act.
+pub fn expire(node: &mut Node, tx: TxId) -> Mem<List<Rec>>
+    ensures state { OnOk result (node.new ≡ (expire_act node.old tx).state) }
+    ensures recs { IfOk result (λ recs. recs ≡ (expire_act node.old tx).recs) }
+{
+    begin_act(node);
+    on_expire(node, tx)?;
+    close(node)?;
+    Ok(take_notes(node))
+}
+
+/// Takes the next command of a session. Answers the records of the act.
+pub fn take_call(node: &mut Node, session: u32) -> Mem<List<Rec>>
+    ensures state { OnOk result (node.new ≡ (call_act node.old session).state) }
+    ensures recs { IfOk result (λ recs. recs ≡ (call_act node.old session).recs) }
+{
+    begin_act(node);
+    on_call(node, session)?;
+    close(node)?;
+    Ok(take_notes(node))
+}
+
+/// Gives a session its answer. Answers the records of the act.
+pub fn give_answer(node: &mut Node, session: u32) -> Mem<List<Rec>>
+    ensures state { OnOk result (node.new ≡ (answer_act node.old session).state) }
+    ensures recs { IfOk result (λ recs. recs ≡ (answer_act node.old session).recs) }
+{
+    begin_act(node);
+    on_answer(node, session)?;
+    Ok(take_notes(node))
+}
+
+/// Begins the late switch of owners. The act notes nothing.
+pub fn begin_minor(node: &mut Node)
+    ensures { node.new ≡ (minor_act node.old).state }
+{
+    begin_act(node);
+}
+
+/// The oldest message of the outbox.
+pub fn oldest_out(node: &Node) -> Option<&Out>
+    ensures { option_copied result ≡ oldest_out node.now }
+{
+    node.state.outbox.get(0)
+}
+
+/// Takes the oldest message out of the outbox.
+pub fn pop_out(node: &mut Node) -> Option<Out>
+    ensures out { result ≡ oldest_out node.old }
+    ensures rest { node.new ≡ (send_act node.old).state }
+{
+    begin_act(node);
+    if node.state.outbox.is_empty() {
+        None
+    } else {
+        Some(node.state.outbox.remove(0))
+    }
+}

@@ -1,0 +1,168 @@
+//! What a node does at the end of each act.
+
+ghost use Rattle.std.specs.Prelude.{◌≡◌, OnOk, IfOk};
+ghost use Rattle.base_words.specs.Tables.{keys_in};
+ghost use Rattle.act_rows.specs.Closing.{closed, is_drained, is_over, near_on, near_on_each, near_on_entry, owes_single, sends_single, single_if_drained, was_sent, all_done, all_over, all_committed_backups};
+ghost use Rattle.act_rows.specs.Exchange.{is_kept_commit};
+ghost use Rattle.act_rows.specs.Steps.{entry_of};
+
+use ignite_types::{List, Mem, Message, ShareState, TopVer, TxId};
+use near_side::start_all;
+use node_state::{BackupName, BackupShare, OwnShare, TxEntry, TxState};
+use node_steps::Node;
+use plain_copies::Duplicate;
+use prepare_finish::shares_go_on;
+use tx_decisions::{decide, end, txs_of};
+use tx_recovery::is_calm;
+
+/// A transaction that awaits no answer of its phase goes on: it is decided, or it has ended.
+fn near_on_entry(node: &mut Node, tx: TxId) -> Mem<()>
+    ensures { OnOk result (node.new ≡ near_on_entry node.old tx (entry_of node.old tx)) }
+{
+    let Some(entry) = node.entry(&tx) else {
+        return Ok(());
+    };
+    let state = entry.state;
+    let outcome = entry.outcome;
+    let fault = entry.fault;
+    match (entry.awaited.as_slice(), entry.backups.as_slice()) {
+        ([], []) => match state {
+            TxState::Preparing => decide(node, tx, true),
+            TxState::Committing | TxState::RollingBack => { end(node, tx, state, &outcome, &fault) }
+            _ => Ok(()),
+        },
+        _ => Ok(()),
+    }
+}
+
+fn near_on_each(node: &mut Node, txs: &[TxId]) -> Mem<()>
+    ensures { OnOk result (node.new ≡ near_on_each node.old txs.now) }
+{
+    for tx in txs {
+        near_on_entry(node, *tx)?;
+    }
+    Ok(())
+}
+
+/// The near side's transactions go on, by transaction.
+fn near_on(node: &mut Node) -> Mem<()>
+    ensures { OnOk result (node.new ≡ near_on node.old) }
+{
+    let txs = txs_of(node)?;
+    near_on_each(node, txs.as_slice())
+}
+
+/// Whether a transaction has no version, or has ended.
+fn is_over(entry: &TxEntry) -> bool
+    ensures { result ≡ is_over entry.now entry.now.state }
+{
+    match entry.state {
+        TxState::Ended => true,
+        _ => entry.top.is_none(),
+    }
+}
+
+fn all_over(txs: &[(TxId, TxEntry)]) -> bool
+    ensures { result ≡ all_over txs.now }
+{
+    for (_, entry) in txs {
+        if !is_over(entry) {
+            return false;
+        }
+    }
+    true
+}
+
+fn is_kept_commit(state: ShareState) -> bool
+    ensures { result ≡ is_kept_commit state }
+{
+    match state {
+        ShareState::Committed => true,
+        _ => false,
+    }
+}
+
+/// Whether all shares are Committed, with no finish in work.
+fn all_done(shares: &[(TxId, OwnShare)]) -> bool
+    ensures { result ≡ all_done shares.now }
+{
+    for (_, share) in shares {
+        if !(is_kept_commit(share.state) && share.askers.len() == 0) {
+            return false;
+        }
+    }
+    true
+}
+
+fn all_committed_backups(backups: &[(BackupName, BackupShare)]) -> bool
+    ensures { result ≡ all_committed_backups backups.now }
+{
+    for (_, backup) in backups {
+        if !is_kept_commit(backup.state) {
+            return false;
+        }
+    }
+    true
+}
+
+/// Whether all older work has ended here.
+fn is_drained(node: &Node) -> bool
+    ensures { result ≡ is_drained node.now }
+{
+    all_over(node.state.txs.as_slice())
+        && node.state.queues.len() == 0
+        && all_done(node.state.shares.as_slice())
+        && all_committed_backups(node.state.backups.as_slice())
+        && is_calm(node)
+}
+
+fn was_sent(top: TopVer, sent: Option<TopVer>) -> bool
+    ensures { result ≡ was_sent top sent }
+{
+    match sent {
+        Some(sent) => sent == top,
+        None => false,
+    }
+}
+
+fn owes_single(node: &Node) -> bool
+    ensures { result ≡ owes_single node.now }
+{
+    !node.is_installed(node.state.seen)
+        && !was_sent(node.state.seen, node.state.single_sent)
+        && is_drained(node)
+}
+
+/// A drained node that has not installed the last version seen sends its Single once.
+fn send_single(node: &mut Node) -> Mem<()>
+    ensures { OnOk result (node.new ≡ sends_single node.old) }
+{
+    let top = node.state.seen;
+    let map = node.state.installed.copy(node.alloc)?;
+    let complete = complete_parts(node)?;
+    let oldest = node.oldest();
+    node.state.single_sent = Some(top);
+    node.send_to_oldest(Message::Single { top, map, complete }, oldest)
+}
+
+/// The partitions that are complete here.
+fn complete_parts(node: &Node) -> Mem<List<u32>>
+    ensures { IfOk result (λ parts. parts ≡ node.now.complete) }
+{
+    List::from_slice(node.alloc, node.state.complete.as_slice())
+}
+
+/// The closing rules: the primary's shares go on first, then the near side; what starts goes on in the same act.
+pub(crate) fn close(node: &mut Node) -> Mem<()>
+    ensures { OnOk result (node.new ≡ closed node.old) }
+{
+    shares_go_on(node)?;
+    near_on(node)?;
+    start_all(node)?;
+    near_on(node)?;
+    if owes_single(node) {
+        send_single(node)
+    } else {
+        Ok(())
+    }
+}

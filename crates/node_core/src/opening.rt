@@ -1,0 +1,147 @@
+//! A declared node before its first act.
+
+ghost use Rattle.std.specs.Prelude.{◌≡◌, [], IfOk};
+ghost use Rattle.base_words.specs.Directory.{first_top, running_from};
+ghost use Rattle.base_words.specs.NextMap.{servers};
+ghost use Rattle.tx_model.specs.Opening.{desks_on, empty_copies, map_if, opening_map_of, opening_node};
+
+use ignite_types::{Cache, List, Mem, Member, NodeId, PartMap, Row, Scenario, Session, TopVer};
+use node_state::{Desk, NodeState, Store};
+use node_steps::{Node, new_desk};
+use ordered_set::Set;
+use ordered_table::Table;
+use part_map::opening_map;
+use plain_copies::Duplicate;
+use std::alloc::Global;
+
+/// The numbers of the servers among these members.
+fn servers(alloc: Global, members: &[Member]) -> Mem<List<NodeId>>
+    ensures { IfOk result (λ nodes. nodes ≡ servers members.now) }
+{
+    let mut nodes = List::new(alloc);
+    for member in members {
+        if member.server {
+            nodes.push(member.node)?;
+        }
+    }
+    Ok(nodes)
+}
+
+/// The numbers of the caches that run from the start.
+fn running(alloc: Global, caches: &[Cache]) -> Mem<List<u32>>
+    ensures { IfOk result (λ running. running ≡ running_from 0 caches.now) }
+{
+    let mut running = List::new(alloc);
+    let mut number = 0u32;
+    for cache in caches {
+        if cache.first {
+            running.push(number)?;
+        }
+        number = number.saturating_add(1);
+    }
+    Ok(running)
+}
+
+/// The map of the first version.
+pub fn opening_map_of(alloc: Global, scenario: &Scenario) -> Mem<PartMap>
+    ensures { IfOk result (λ map. map ≡ opening_map_of scenario.now) }
+{
+    let servers = servers(alloc, scenario.nodes.as_slice())?;
+    let running = running(alloc, scenario.caches.as_slice())?;
+    opening_map(
+        alloc,
+        first_top(),
+        servers.as_slice(),
+        scenario.caches.as_slice(),
+        running.as_slice(),
+    )
+}
+
+fn first_top() -> TopVer
+    ensures { result ≡ first_top }
+{
+    TopVer { major: 1, minor: 0 }
+}
+
+/// The sessions on a node, by their numbers from 1.
+fn desks_on(alloc: Global, id: NodeId, sessions: &[Session]) -> Mem<Table<u32, Desk>>
+    ensures { IfOk result (λ desks. desks ≡ desks_on id 1 [] sessions.now) }
+{
+    let mut desks = Table::new(alloc);
+    let mut number = 1u32;
+    for session in sessions {
+        if session.node == id {
+            let script = List::from_slice(alloc, session.commands.as_slice())?;
+            desks.set(number, new_desk(alloc, script))?;
+        }
+        number = number.saturating_add(1);
+    }
+    Ok(desks)
+}
+
+/// An empty copy for each of these rows.
+fn empty_copies(alloc: Global, rows: &[Row]) -> Mem<List<Store>>
+    ensures { IfOk result (λ copies. copies ≡ empty_copies rows.now) }
+{
+    let mut copies = List::new(alloc);
+    for _row in rows {
+        copies.push(Table::new(alloc))?;
+    }
+    Ok(copies)
+}
+
+fn map_if(alloc: Global, initial: bool, map: &PartMap) -> Mem<Option<PartMap>>
+    ensures { IfOk result (λ installed. installed ≡ map_if initial map.now) }
+{
+    if initial {
+        Ok(Some(map.copy(alloc)?))
+    } else {
+        Ok(None)
+    }
+}
+
+/// A declared node of the scenario before its first act. An initial one has this map installed, and version 1.0 open.
+pub fn new_node(
+    alloc: Global,
+    scenario: &Scenario,
+    map: &PartMap,
+    id: NodeId,
+    initial: bool,
+) -> Mem<Node>
+    ensures { IfOk result (λ node. node ≡ opening_node scenario.now map.now id initial) }
+{
+    let running = running(alloc, scenario.caches.as_slice())?;
+    let state = NodeState {
+        me: id,
+        acts: 0,
+        now: 0,
+        caches: scenario.caches.copy(alloc)?,
+        read: 0,
+        seen: first_top(),
+        members: List::from_slice(alloc, scenario.nodes.as_slice())?,
+        running: Set::from_list(running),
+        left: Set::new(alloc),
+        installed: map_if(alloc, initial, map)?,
+        opened: if initial { Some(first_top()) } else { None },
+        desks: desks_on(alloc, id, scenario.sessions.as_slice())?,
+        txs: Table::new(alloc),
+        near: Table::new(alloc),
+        stores: empty_copies(alloc, map.rows.as_slice())?,
+        queues: Table::new(alloc),
+        readers: Table::new(alloc),
+        order: 0,
+        shares: Table::new(alloc),
+        backups: Table::new(alloc),
+        single_sent: None,
+        singles: List::new(alloc),
+        exchange: None,
+        complete: Set::new(alloc),
+        claims: Set::new(alloc),
+        round: None,
+        reports: List::new(alloc),
+        verdicts: Table::new(alloc),
+        outbox: List::new(alloc),
+        noted: List::new(alloc),
+    };
+    Ok(Node { alloc, state })
+}

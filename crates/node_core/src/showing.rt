@@ -1,0 +1,40 @@
+//! What a node's state says of possible events.
+
+ghost use Rattle.std.specs.Prelude.{◌≡◌};
+ghost use Rattle.act_rows.specs.Acts.{may_answer, may_call, may_send};
+ghost use Rattle.act_rows.specs.Steps.{desk_of};
+ghost use Rattle.tx_model.specs.World.{over_desk};
+
+use near_side::{answer_at, call_at, desk_over};
+use node_steps::Node;
+
+/// Whether the session may give a command.
+pub fn may_call(node: &Node, session: u32) -> bool
+    ensures { result ≡ may_call node.now session }
+{
+    call_at(node, session).is_some()
+}
+
+/// Whether an answer is ready for the session, or the end of its sleep is reached.
+pub fn may_answer(node: &Node, session: u32) -> bool
+    ensures { result ≡ may_answer node.now session }
+{
+    answer_at(node, session).is_some()
+}
+
+/// Whether the outbox has a message.
+pub fn may_send(node: &Node) -> bool
+    ensures { result ≡ may_send node.now }
+{
+    node.state.outbox.get(0).is_some()
+}
+
+/// Whether the session is at the end of its script, with no command pending.
+pub fn session_over(node: &Node, session: u32) -> bool
+    ensures { result ≡ over_desk (desk_of node.now session) }
+{
+    match node.desk(session) {
+        Some(desk) => desk_over(desk),
+        None => true,
+    }
+}
