@@ -21,8 +21,8 @@ is_write key new w = same_key w.0 key && same_value w.1 new
 
 -- an apply stands behind its commit decision, at a holder of its key, and carries the written value
 abbrev pub apply_fits : Journal → List PartMap → List Noted → Option NodeId → TxId → Key → Option (List ℕ) → Bool
-apply_fits j maps before node tx key new = is_committed_before before tx
-    && list_any (λ (holder : NodeId). is_node holder node) (holders_of_key maps before tx key)
+apply_fits j maps before who tx key new = is_committed_before before tx
+    && list_any (λ (holder : NodeId). is_node holder who) (holders_of_key maps before tx key)
     && list_any (is_write key new) (footprint j.groups tx).writes
 
 -- the part of a key by the map of a transaction's version
@@ -39,10 +39,10 @@ drop_fits maps before tx key w = not (nat_eq (part_for maps before tx w.0) (part
     || all_applied before tx w.0 (holders_of_key maps before tx key)
 
 abbrev pub synced_at : Journal → List PartMap → List Noted → Option NodeId → Rec → Bool
-synced_at j maps before node (note.Apply tx top primary key new ver) = apply_fits j maps before node tx key new
-synced_at j maps before node (note.Drop tx key) = not (is_committed_before before tx)
+synced_at j maps before who (note.Apply tx top primary key new ver) = apply_fits j maps before who tx key new
+synced_at j maps before who (note.Drop tx key) = not (is_committed_before before tx)
     || list_all (drop_fits maps before tx key) (footprint j.groups tx).writes
-synced_at j maps before node r = true
+synced_at j maps before who r = true
 
 -- applies are those of committed writes at their holders, and a lock of a committed transaction is free only after them
 abbrev pub applied_whole : Journal → Bool

@@ -56,7 +56,7 @@ joiner_in None = None
 joiner_in (Some planned) = joiner_at planned.step
 
 abbrev pub noted_by : Option NodeId → List Rec → List Noted
-noted_by node recs = map (λ (r : Rec). record { node = node; rec = r }) recs
+noted_by who recs = map (λ (r : Rec). record { node = who; rec = r }) recs
 
 -- behind a join step's Planned stand the joiner's records
 abbrev pub noted_in_plan : Scenario → List Rec → List Noted
@@ -66,8 +66,8 @@ noted_in_plan scenario (note.Planned place refused ∷ rs) = record { node = Non
 noted_in_plan scenario (r ∷ rs) = noted_by None (r ∷ rs)
 
 abbrev pub noted_for : Scenario → Option NodeId → Event → List Rec → List Noted
-noted_for scenario node event.Plan recs = noted_in_plan scenario recs
-noted_for scenario node e recs = noted_by node recs
+noted_for scenario who event.Plan recs = noted_in_plan scenario recs
+noted_for scenario who e recs = noted_by who recs
 
 abbrev pub noted_in : Scenario → Homes → Group → List Noted
 noted_in scenario homes g = noted_for scenario (actor homes g.event) g.event g.recs
