@@ -2,8 +2,9 @@
 
 ghost use Rattle.std.specs.Prelude.{◌≡◌, [], OnOk, IfOk};
 ghost use Rattle.std.specs.Option.{option_copied};
-ghost use Rattle.base_words.specs.Directory.{appended, event_at, first_top, gave_answer, is_due, joined, members_after, next_major, next_minor, next_step, node_set, opening_directory, without_node, step_done, step_due, ticked, version_after};
+ghost use Rattle.base_words.specs.Directory.{appended, event_at, gave_answer, is_due, joined, next_step, opening_directory, step_done, step_due, ticked};
 
+use crate::topology::{change_members, first_top, node_set, version_after};
 use ignite_types::{List, Mem, Member, NodeId, PlanStep, Scenario, TopVer, TopoEvent};
 use ordered_set::Set;
 use std::alloc::Global;
@@ -31,67 +32,6 @@ impl Model for Directory {
     ghost view = { λ d. record { events = d.events; ever = d.ever; members = d.members; last = d.last; clock = d.clock; answered = d.answered; plan = d.plan; done = d.done } };
 }
 
-/// The first topology version, 1.0.
-pub fn first_top() -> TopVer
-    ensures { result ≡ first_top }
-{
-    TopVer { major: 1, minor: 0 }
-}
-
-/// The version of an event: a join or a loss raises the major number, any other event the minor one.
-pub fn version_after(top: TopVer, event: &TopoEvent) -> TopVer
-    ensures { result ≡ version_after top event.now }
-{
-    match event {
-        TopoEvent::Join(_) | TopoEvent::Left(_) => TopVer {
-            major: top.major.saturating_add(1),
-            minor: 0,
-        },
-        _ => TopVer {
-            major: top.major,
-            minor: top.minor.saturating_add(1),
-        },
-    }
-}
-
-/// The members without a node.
-fn without_node(alloc: Global, node: NodeId, members: &[Member]) -> Mem<List<Member>>
-    ensures { IfOk result (λ others. others ≡ without_node node members.now) }
-{
-    let mut others = List::new(alloc);
-    for member in members {
-        if member.node != node {
-            others.push(*member)?;
-        }
-    }
-    Ok(others)
-}
-
-/// The members after an event, by age.
-pub fn members_after(alloc: Global, members: &[Member], event: &TopoEvent) -> Mem<List<Member>>
-    ensures { IfOk result (λ after. after ≡ members_after members.now event.now) }
-{
-    match event {
-        TopoEvent::Join(member) => {
-            let mut after = List::from_slice(alloc, members)?;
-            after.push(*member)?;
-            Ok(after)
-        }
-        TopoEvent::Left(node) => without_node(alloc, *node, members),
-        _ => List::from_slice(alloc, members),
-    }
-}
-
-fn node_set(alloc: Global, members: &[Member]) -> Mem<Set<NodeId>>
-    ensures { IfOk result (λ nodes. nodes ≡ node_set [] members.now) }
-{
-    let mut nodes = Set::new(alloc);
-    for member in members {
-        nodes.insert(member.node)?;
-    }
-    Ok(nodes)
-}
-
 impl Directory {
     /// The directory of a scenario before the first event.
     pub fn new(alloc: Global, scenario: &Scenario) -> Mem<Directory>
@@ -113,9 +53,8 @@ impl Directory {
     pub fn append(&mut self, alloc: Global, event: &TopoEvent) -> Mem<()>
         ensures { OnOk result (self.new ≡ appended self.old event.now) }
     {
-        let members = members_after(alloc, self.members.as_slice(), event)?;
         self.events.push(*event)?;
-        self.members = members;
+        change_members(alloc, &mut self.members, event)?;
         self.last = version_after(self.last, event);
         Ok(())
     }

@@ -3,5 +3,9 @@
 
 mod directory;
 mod losses;
+mod topology;
 
-pub use directory::{Directory, first_top, version_after};
+pub use directory::Directory;
+pub use topology::{
+    change_members, change_running, first_top, node_set, running_from, version_after,
+};

@@ -2,7 +2,7 @@
 -- both reads find nothing, and B comes second in the history.
 use Rattle.std.proofs.Common.{[], Ok, refl, true, ◌∷◌, ◌≡◌}
 use Rattle.ignite_types.specs.declared.scenario.Scenario.{Scenario}
-use Rattle.machine_runs.specs.Driver.{Shown, shown, shown_at}
+use Rattle.machine_runs.specs.Driver.{Shown, laws_hold, shown, shown_at}
 use Rattle.machine_runs.specs.Words.{absent, begin, commit, committed, entry, get, holds, kept, none, ok, put, scenario, server, session, sleep, tx, version}
 
 abbrev blocked_writer : Scenario
@@ -30,3 +30,6 @@ the_write_waits = refl
 -- also where B gives its first command before A
 the_write_waits_again : shown_at (1 ∷ []) blocked_writer ≡ comes_to
 the_write_waits_again = refl
+
+the_laws_hold : laws_hold blocked_writer ≡ true
+the_laws_hold = refl

@@ -2,7 +2,7 @@
 -- another version than the one that A read, and A is rolled back.
 use Rattle.std.proofs.Common.{[], Ok, false, refl, true, ◌∷◌, ◌≡◌}
 use Rattle.ignite_types.specs.declared.scenario.Scenario.{Scenario}
-use Rattle.machine_runs.specs.Driver.{Shown, shown}
+use Rattle.machine_runs.specs.Driver.{Shown, laws_hold, shown}
 use Rattle.machine_runs.specs.Words.{begin_optimistic, changed, commit, committed, entry, get, holds, kept, ok, put, scenario, server, session, sleep, tx, value, version}
 
 abbrev changed_since_read : Scenario
@@ -29,3 +29,6 @@ comes_to = record {
 
 the_version_has_changed : shown changed_since_read ≡ comes_to
 the_version_has_changed = refl
+
+the_laws_hold : laws_hold changed_since_read ≡ true
+the_laws_hold = refl

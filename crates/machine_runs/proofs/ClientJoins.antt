@@ -2,7 +2,7 @@
 -- and B, which calls between both, waits until then. C reads on the new client.
 use Rattle.std.proofs.Common.{[], Ok, refl, true, ◌∷◌, ◌≡◌}
 use Rattle.ignite_types.specs.declared.scenario.Scenario.{Scenario}
-use Rattle.machine_runs.specs.Driver.{Shown, shown}
+use Rattle.machine_runs.specs.Driver.{Shown, laws_hold, shown}
 use Rattle.machine_runs.specs.Words.{begin, client, commit, committed, entry, from_moment, get, holds, join, kept, ok, put, scenario, server, session, sleep, tx, value, version}
 
 abbrev client_joins : Scenario
@@ -28,3 +28,6 @@ comes_to = record {
 
 the_version_waits : shown client_joins ≡ comes_to
 the_version_waits = refl
+
+the_laws_hold : laws_hold client_joins ≡ true
+the_laws_hold = refl

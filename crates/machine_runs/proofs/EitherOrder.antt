@@ -1,7 +1,7 @@
 -- Two sessions write one key at the same moment. Who calls first is first in the history, and the other one's value is left.
 use Rattle.std.proofs.Common.{[], Ok, refl, true, ◌∷◌, ◌≡◌}
 use Rattle.ignite_types.specs.declared.scenario.Scenario.{Scenario}
-use Rattle.machine_runs.specs.Driver.{Shown, shown, shown_at}
+use Rattle.machine_runs.specs.Driver.{Shown, laws_hold, laws_hold_at, shown, shown_at}
 use Rattle.machine_runs.specs.Words.{entry, holds, kept, ok, put, scenario, server, session, tx, version}
 
 abbrev either_order : Scenario
@@ -39,3 +39,9 @@ b_first = record {
 
 b_calls_first : shown_at (1 ∷ 1 ∷ []) either_order ≡ b_first
 b_calls_first = refl
+
+the_laws_hold : laws_hold either_order ≡ true
+the_laws_hold = refl
+
+the_laws_hold_too : laws_hold_at (1 ∷ 1 ∷ []) either_order ≡ true
+the_laws_hold_too = refl

@@ -1,7 +1,7 @@
 -- One server. A session begins a transaction, puts a value, commits, and reads the value afterwards.
 use Rattle.std.proofs.Common.{[], Ok, refl, true, ◌∷◌, ◌≡◌}
 use Rattle.ignite_types.specs.declared.scenario.Scenario.{Scenario}
-use Rattle.machine_runs.specs.Driver.{Shown, shown}
+use Rattle.machine_runs.specs.Driver.{Shown, laws_hold, shown}
 use Rattle.machine_runs.specs.Words.{begin, commit, committed, entry, get, holds, kept, ok, put, scenario, server, session, tx, value, version}
 
 abbrev first_block : Scenario
@@ -23,3 +23,6 @@ comes_to = record {
 
 the_value_is_read : shown first_block ≡ comes_to
 the_value_is_read = refl
+
+the_laws_hold : laws_hold first_block ≡ true
+the_laws_hold = refl

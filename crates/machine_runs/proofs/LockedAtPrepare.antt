@@ -2,7 +2,7 @@
 -- rolled back while A still sleeps.
 use Rattle.std.proofs.Common.{[], Ok, false, refl, true, ◌∷◌, ◌≡◌}
 use Rattle.ignite_types.specs.declared.scenario.Scenario.{Scenario}
-use Rattle.machine_runs.specs.Driver.{Shown, shown}
+use Rattle.machine_runs.specs.Driver.{Shown, laws_hold, shown}
 use Rattle.machine_runs.specs.Words.{begin, begin_optimistic, commit, committed, entry, get, holds, kept, locked, none, ok, put, scenario, server, session, sleep, tx, version}
 
 abbrev locked_at_prepare : Scenario
@@ -26,3 +26,6 @@ comes_to = record {
 
 the_prepare_finds_the_lock : shown locked_at_prepare ≡ comes_to
 the_prepare_finds_the_lock = refl
+
+the_laws_hold : laws_hold locked_at_prepare ≡ true
+the_laws_hold = refl

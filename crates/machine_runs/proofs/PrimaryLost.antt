@@ -2,7 +2,7 @@
 -- the backup is the primary, and A's next transaction finds nothing.
 use Rattle.std.proofs.Common.{[], Ok, false, refl, true, ◌∷◌, ◌≡◌}
 use Rattle.ignite_types.specs.declared.scenario.Scenario.{Scenario}
-use Rattle.machine_runs.specs.Driver.{Shown, shown}
+use Rattle.machine_runs.specs.Driver.{Shown, laws_hold, shown}
 use Rattle.machine_runs.specs.Words.{absent, begin, client, commit, entry, from_moment, get, lose, node_lost, none, ok, put, scenario, server, session, sleep, tx, version}
 
 abbrev primary_lost : Scenario
@@ -21,3 +21,6 @@ comes_to = record {
 
 the_commit_fails : shown primary_lost ≡ comes_to
 the_commit_fails = refl
+
+the_laws_hold : laws_hold primary_lost ≡ true
+the_laws_hold = refl

@@ -4,7 +4,7 @@
 use Rattle.std.proofs.Common.{[], Ok, refl, true, ◌∷◌, ◌≡◌}
 use Rattle.std.specs.Prelude.{List, ℕ}
 use Rattle.ignite_types.specs.declared.scenario.Scenario.{Scenario}
-use Rattle.machine_runs.specs.Driver.{Shown, after_firsts, brought_at, shown_at}
+use Rattle.machine_runs.specs.Driver.{Shown, after_firsts, brought_at, laws_hold_at, shown_at}
 use Rattle.machine_runs.specs.Words.{absent, begin, commit, committed, entry, from_moment, get, hold, holds, join, kept, none, ok, put, release, remove, scenario, server, session, sleep, tx, value, version}
 
 abbrev removed_before_supply : Scenario
@@ -51,3 +51,6 @@ the_removal_stays = refl
 -- the prepare of the removal comes before the supply
 last_the_old_entries : brought_at places removed_before_supply ≡ holds "a" "2" ∷ absent "b" ∷ holds "a" "1" ∷ holds "b" "1" ∷ []
 last_the_old_entries = refl
+
+the_laws_hold : laws_hold_at places removed_before_supply ≡ true
+the_laws_hold = refl

@@ -3,7 +3,7 @@
 -- lock, finds nothing.
 use Rattle.std.proofs.Common.{[], Ok, false, refl, true, ◌∷◌, ◌≡◌}
 use Rattle.ignite_types.specs.declared.scenario.Scenario.{Scenario}
-use Rattle.machine_runs.specs.Driver.{Shown, shown}
+use Rattle.machine_runs.specs.Driver.{Shown, laws_hold, shown}
 use Rattle.machine_runs.specs.Words.{absent, begin, client, commit, entry, from_moment, get, hold, lose, none, ok, put, scenario, server, session, sleep, tx, version}
 
 abbrev rollback_recovered : Scenario
@@ -25,3 +25,6 @@ comes_to = record {
 
 the_servers_roll_back : shown rollback_recovered ≡ comes_to
 the_servers_roll_back = refl
+
+the_laws_hold : laws_hold rollback_recovered ≡ true
+the_laws_hold = refl

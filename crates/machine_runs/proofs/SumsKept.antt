@@ -2,7 +2,7 @@
 use Rattle.std.proofs.Common.{[], Ok, refl, true, ◌∷◌, ◌≡◌}
 use Rattle.std.specs.Fmt.{digits}
 use Rattle.ignite_types.specs.declared.scenario.Scenario.{Scenario}
-use Rattle.machine_runs.specs.Driver.{Shown, shown}
+use Rattle.machine_runs.specs.Driver.{Shown, laws_hold, shown}
 use Rattle.machine_runs.specs.Words.{begin, commit, committed, entry, give, holds, kept, ok, put, scenario, server, session, sleep, take, tx, value, version}
 
 abbrev sums_kept : Scenario
@@ -37,3 +37,7 @@ comes_to = record {
 the_sum_is_ten : shown sums_kept ≡ comes_to
 unfolding digits
 the_sum_is_ten = refl
+
+the_laws_hold : laws_hold sums_kept ≡ true
+unfolding digits
+the_laws_hold = refl

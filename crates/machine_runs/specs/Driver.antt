@@ -1,6 +1,6 @@
 -- Drivers of the machine, and what a run comes to. The events are taken one after another from the possible ones, and each
 -- event's group is what the machine makes of it.
-use Rattle.std.specs.Prelude.{Bool, List, None, Option, Result, Some, [], if◌then◌else◌, length, map, slice_get, suc, zero, ℕ, ◌&&◌, ◌++◌, ◌+◌, ◌==◌, ◌∷◌}
+use Rattle.std.specs.Prelude.{Bool, List, None, Option, Result, Some, [], if◌then◌else◌, length, map, slice_get, suc, zero, ℕ, ◌++◌, ◌+◌, ◌==◌, ◌∷◌}
 use Rattle.ignite_types.specs.declared.answer.Answer.{Answer}
 use Rattle.ignite_types.specs.declared.journal.Event.{Event}
 use Rattle.ignite_types.specs.declared.journal.Group.{Group}
@@ -14,12 +14,10 @@ use Rattle.ignite_types.specs.declared.names.TxId.{TxId}
 use Rattle.ignite_types.specs.declared.scenario.Scenario.{Scenario}
 use Rattle.ignite_types.specs.declared.scenario.Session.{Session}
 use Rattle.ignite_types.specs.declared.text.Key.{Key}
-use Rattle.tx_model.specs.Applied.{applied_whole}
+use Rattle.journal_statements.specs.Headline.{headline}
 use Rattle.tx_model.specs.History.{Map, commits, records, serial}
 use Rattle.tx_model.specs.Opening.{opening}
 use Rattle.tx_model.specs.Runs.{after}
-use Rattle.tx_model.specs.Versions.{drained, one_version}
-use Rattle.tx_model.specs.Waits.{deadlocks_true}
 use Rattle.tx_model.specs.World.{Outcome, World, all_over, outcome, possible}
 use Rattle.tx_model.specs.declared.history.BadRead.{BadRead}
 use Rattle.tx_model.specs.declared.history.CommitEntry.{CommitEntry}
@@ -128,10 +126,13 @@ brought_among (r ∷ rs) = brought_among rs
 abbrev pub brought_at : List ℕ → Scenario → List (Key × Option (List ℕ))
 brought_at places s = brought_among (records (run_at places s))
 
--- in this journal each transaction has one version, no version opens before the older transactions have ended, what is committed
--- is applied whole, and each report of a deadlock is a true one
-abbrev pub laws_hold_of : Journal → Bool
-laws_hold_of j = one_version j && drained j && applied_whole j && deadlocks_true j
+-- the journal of a run that came to its end
+abbrev pub journal_at : List ℕ → Scenario → Journal
+journal_at places s = record { scenario = s; groups = run_at places s; end = end.AllEnded }
+
+-- all that a journal should show is so of this run
+abbrev pub laws_hold_at : List ℕ → Scenario → Bool
+laws_hold_at places s = headline (journal_at places s)
 
 abbrev pub laws_hold : Scenario → Bool
-laws_hold s = laws_hold_of (record { scenario = s; groups = run_at [] s; end = end.AllEnded })
+laws_hold s = laws_hold_at [] s

@@ -18,7 +18,7 @@ use tx_decisions::near_side_saw_leave;
 use tx_recovery::begin_round;
 
 /// An act begins: it counts, and nothing is noted yet.
-fn begin_act(node: &mut Node)
+pub fn begin_act(node: &mut Node)
     ensures { node.new ≡ begun node.old }
 {
     node.state.acts = node.state.acts.saturating_add(1);

@@ -8,7 +8,8 @@ mod opening;
 mod showing;
 
 pub use acts::{
-    begin_minor, expire, give_answer, join, oldest_out, pop_out, see, take_call, take_message,
+    begin_act, begin_minor, expire, give_answer, join, oldest_out, pop_out, see, take_call,
+    take_message,
 };
 pub use node_steps::Node;
 pub use opening::{new_node, opening_map_of};

@@ -1,11 +1,11 @@
 //! A declared node before its first act.
 
 ghost use Rattle.std.specs.Prelude.{◌≡◌, [], IfOk};
-ghost use Rattle.base_words.specs.Directory.{first_top, running_from};
 ghost use Rattle.base_words.specs.NextMap.{servers};
 ghost use Rattle.tx_model.specs.Opening.{desks_on, empty_copies, map_if, opening_map_of, opening_node};
 
-use ignite_types::{Cache, List, Mem, Member, NodeId, PartMap, Row, Scenario, Session, TopVer};
+use discovery_order::{first_top, running_from};
+use ignite_types::{List, Mem, Member, NodeId, PartMap, Row, Scenario, Session};
 use node_state::{Desk, NodeState, Store};
 use node_steps::{Node, new_desk};
 use ordered_set::Set;
@@ -27,27 +27,12 @@ fn servers(alloc: Global, members: &[Member]) -> Mem<List<NodeId>>
     Ok(nodes)
 }
 
-/// The numbers of the caches that run from the start.
-fn running(alloc: Global, caches: &[Cache]) -> Mem<List<u32>>
-    ensures { IfOk result (λ running. running ≡ running_from 0 caches.now) }
-{
-    let mut running = List::new(alloc);
-    let mut number = 0u32;
-    for cache in caches {
-        if cache.first {
-            running.push(number)?;
-        }
-        number = number.saturating_add(1);
-    }
-    Ok(running)
-}
-
 /// The map of the first version.
 pub fn opening_map_of(alloc: Global, scenario: &Scenario) -> Mem<PartMap>
     ensures { IfOk result (λ map. map ≡ opening_map_of scenario.now) }
 {
     let servers = servers(alloc, scenario.nodes.as_slice())?;
-    let running = running(alloc, scenario.caches.as_slice())?;
+    let running = running_from(alloc, scenario.caches.as_slice())?;
     opening_map(
         alloc,
         first_top(),
@@ -55,12 +40,6 @@ pub fn opening_map_of(alloc: Global, scenario: &Scenario) -> Mem<PartMap>
         scenario.caches.as_slice(),
         running.as_slice(),
     )
-}
-
-fn first_top() -> TopVer
-    ensures { result ≡ first_top }
-{
-    TopVer { major: 1, minor: 0 }
 }
 
 /// The sessions on a node, by their numbers from 1.
@@ -110,7 +89,7 @@ pub fn new_node(
 ) -> Mem<Node>
     ensures { IfOk result (λ node. node ≡ opening_node scenario.now map.now id initial) }
 {
-    let running = running(alloc, scenario.caches.as_slice())?;
+    let running = running_from(alloc, scenario.caches.as_slice())?;
     let state = NodeState {
         me: id,
         acts: 0,

@@ -1,71 +1,13 @@
 //! A node reads the topology's events.
 
-ghost use Rattle.std.specs.Prelude.{◌≡◌, OnOk, IfOk, fold};
+ghost use Rattle.std.specs.Prelude.{◌≡◌, OnOk, fold};
 ghost use Rattle.act_rows.specs.Exchange.{learned, learns, left_after};
-ghost use Rattle.base_words.specs.Directory.{members_after, running_after, version_after, without_node};
 ghost use Rattle.base_words.specs.Orders.{raised};
 
-use ignite_types::{List, Mem, Member, NodeId, TopVer, TopoEvent};
+use discovery_order::{change_members, change_running, version_after};
+use ignite_types::{Mem, NodeId, TopoEvent};
 use node_steps::Node;
 use ordered_set::Set;
-use std::alloc::Global;
-
-/// The version that follows another by an event.
-fn version_after(top: TopVer, event: &TopoEvent) -> TopVer
-    ensures { result ≡ version_after top event.now }
-{
-    match event {
-        TopoEvent::Join(_) | TopoEvent::Left(_) => TopVer {
-            major: top.major.saturating_add(1),
-            minor: 0,
-        },
-        _ => TopVer {
-            major: top.major,
-            minor: top.minor.saturating_add(1),
-        },
-    }
-}
-
-/// The members without a node.
-fn without_node(alloc: Global, node: NodeId, members: &[Member]) -> Mem<List<Member>>
-    ensures { IfOk result (λ others. others ≡ without_node node members.now) }
-{
-    let mut others = List::new(alloc);
-    for member in members {
-        if member.node != node {
-            others.push(*member)?;
-        }
-    }
-    Ok(others)
-}
-
-/// A member joins at the end, and leaves its place.
-fn change_members(alloc: Global, members: &mut List<Member>, event: &TopoEvent) -> Mem<()>
-    ensures { OnOk result (members.new ≡ members_after members.old event.now) }
-{
-    match event {
-        TopoEvent::Join(member) => members.push(*member),
-        TopoEvent::Left(node) => {
-            *members = without_node(alloc, *node, members.as_slice())?;
-            Ok(())
-        }
-        _ => Ok(()),
-    }
-}
-
-/// A cache starts or stops.
-fn change_running(running: &mut Set<u32>, event: &TopoEvent) -> Mem<()>
-    ensures { OnOk result (running.new ≡ running_after running.old event.now) }
-{
-    match event {
-        TopoEvent::Start(cache) => running.insert(*cache),
-        TopoEvent::Stop(cache) => {
-            running.remove(cache);
-            Ok(())
-        }
-        _ => Ok(()),
-    }
-}
 
 /// A node that leaves is remembered.
 fn change_left(left: &mut Set<NodeId>, event: &TopoEvent) -> Mem<()>

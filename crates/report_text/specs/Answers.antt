@@ -1,4 +1,6 @@
 -- The texts of names, versions and answers.
+use Rattle.base_words.specs.declared.script.Told.{Told}
+use Rattle.base_words.specs.declared.script.Told.TheVariants as told
 use Rattle.std.specs.Prelude.{ℕ, ◌-◌, List, [], ◌∷◌, ◌++◌, codes, decimal, Option, Some, None, slice_get}
 use Rattle.ignite_types.specs.declared.answer.Answer.{Answer}
 use Rattle.ignite_types.specs.declared.answer.Answer.TheVariants as answer
@@ -7,6 +9,7 @@ use Rattle.ignite_types.specs.declared.answer.Fail.TheVariants.{Changed, Candida
 use Rattle.ignite_types.specs.declared.answer.Fault.{Fault}
 use Rattle.ignite_types.specs.declared.answer.Fault.TheVariants.{Check, Timeout, Deadlock, Cut, NodeLost}
 use Rattle.ignite_types.specs.declared.names.CacheVersion.{CacheVersion}
+use Rattle.ignite_types.specs.declared.names.NodeId.{NodeId}
 use Rattle.ignite_types.specs.declared.names.TopVer.{TopVer}
 use Rattle.ignite_types.specs.declared.names.TxId.{TxId}
 use Rattle.ignite_types.specs.declared.scenario.Cache.{Cache}
@@ -31,6 +34,10 @@ tx_text s tx = session_name (slice_get s.sessions (tx.session - 1)) ++ (35 ∷ d
 -- a topology version: `major.minor`
 abbrev pub top_text : TopVer → List ℕ
 top_text top = decimal top.major ++ (46 ∷ decimal top.minor)
+
+-- a word, two nodes and a blank between them
+abbrev pub nodes_text : List ℕ → NodeId → NodeId → List ℕ
+nodes_text word a b = (word ++ decimal a.0) ++ (32 ∷ decimal b.0)
 
 -- an entry's version: `major.minor:order:node`
 abbrev pub version_text : CacheVersion → List ℕ
@@ -61,3 +68,8 @@ answer_text s answer.NoTransaction = codes "no transaction"
 answer_text s answer.TransactionOpen = codes "transaction open"
 answer_text s answer.Skipped = codes "skipped"
 answer_text s (answer.NoCache cache) = codes "no cache " ++ cache_name (slice_get s.caches cache)
+
+-- what an item of a script is answered
+abbrev pub told_text : Scenario → Told → List ℕ
+told_text s (told.Plain answer) = answer_text s answer
+told_text s told.Empty = codes "empty"

@@ -2,8 +2,9 @@
 
 ghost use Rattle.std.specs.Prelude.{◌≡◌, ◌-◌, ◌∷◌, ◌++◌, decimal, slice_get, OnOk};
 ghost use Rattle.scen_text.specs.Items.{key_text};
-ghost use Rattle.report_text.specs.Answers.{session_name, cache_name, tx_text, top_text, version_text, fail_text, fault_text, answer_text};
+ghost use Rattle.report_text.specs.Answers.{session_name, cache_name, nodes_text, tx_text, top_text, version_text, fail_text, fault_text, answer_text, told_text};
 
+use base_words::Told;
 use ignite_types::{Answer, CacheVersion, Fail, Fault, Key, Mem, NodeId, Scenario, TopVer, TxId};
 use scen_text::{TextOut, write_key};
 
@@ -16,7 +17,7 @@ fn write_marked(out: &mut TextOut, mark: u8, number: u64) -> Mem<()>
 }
 
 /// Writes a word and a node's number.
-fn write_node(out: &mut TextOut, word: &str, node: NodeId) -> Mem<()>
+pub fn write_node(out: &mut TextOut, word: &str, node: NodeId) -> Mem<()>
     ensures { OnOk result (out.new ≡ out.old ++ (word.now ++ decimal node.0)) }
 {
     out.text(word)?;
@@ -24,7 +25,7 @@ fn write_node(out: &mut TextOut, word: &str, node: NodeId) -> Mem<()>
 }
 
 /// Writes the name of the session of this number.
-fn write_session_name(out: &mut TextOut, scenario: &Scenario, number: u32) -> Mem<()>
+pub fn write_session_name(out: &mut TextOut, scenario: &Scenario, number: u32) -> Mem<()>
     ensures { OnOk result (out.new ≡ out.old ++ session_name (slice_get scenario.now.sessions (number - 1))) }
 {
     if let Some(session) = scenario.sessions.get((number as usize).saturating_sub(1)) {
@@ -57,6 +58,30 @@ pub fn write_top(out: &mut TextOut, top: &TopVer) -> Mem<()>
 {
     out.number(top.major)?;
     write_marked(out, b'.', top.minor)
+}
+
+/// Writes a word and a topology version.
+pub fn write_word_top(out: &mut TextOut, word: &str, top: &TopVer) -> Mem<()>
+    ensures { OnOk result (out.new ≡ out.old ++ (word.now ++ top_text top.now)) }
+{
+    out.text(word)?;
+    write_top(out, top)
+}
+
+/// Writes a word and a transaction's name.
+pub fn write_word_tx(out: &mut TextOut, scenario: &Scenario, word: &str, tx: &TxId) -> Mem<()>
+    ensures { OnOk result (out.new ≡ out.old ++ (word.now ++ tx_text scenario.now tx.now)) }
+{
+    out.text(word)?;
+    write_tx(out, scenario, tx)
+}
+
+/// Writes a word and the numbers of two nodes.
+pub fn write_nodes(out: &mut TextOut, word: &str, a: NodeId, b: NodeId) -> Mem<()>
+    ensures { OnOk result (out.new ≡ out.old ++ nodes_text word.now a b) }
+{
+    write_node(out, word, a)?;
+    write_marked(out, b' ', u64::from(b.0))
 }
 
 /// Writes an entry's version.
@@ -96,8 +121,7 @@ fn write_fail(out: &mut TextOut, scenario: &Scenario, fail: &Fail) -> Mem<()>
         }
         Fail::Candidate { key, holder } => {
             write_on(out, scenario, "locked ", key)?;
-            out.text(" by ")?;
-            write_tx(out, scenario, holder)
+            write_word_tx(out, scenario, " by ", holder)
         }
     }
 }
@@ -139,5 +163,15 @@ pub fn write_answer(out: &mut TextOut, scenario: &Scenario, answer: &Answer) -> 
             out.text("no cache ")?;
             write_cache_name(out, scenario, *cache)
         }
+    }
+}
+
+/// Writes what an item of a script is answered.
+pub fn write_told(out: &mut TextOut, scenario: &Scenario, told: &Told) -> Mem<()>
+    ensures { OnOk result (out.new ≡ out.old ++ told_text scenario.now told.now) }
+{
+    match told {
+        Told::Plain(answer) => write_answer(out, scenario, answer),
+        Told::Empty => out.text("empty"),
     }
 }

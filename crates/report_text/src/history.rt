@@ -1,25 +1,18 @@
 //! The history and the map after it.
 
-ghost use Rattle.std.specs.Prelude.{◌≡◌, ◌+◌, ◌<◌, [], ◌∷◌, ◌++◌, decimal, IfOk, OnOk};
-ghost use Rattle.first_model.specs.History.{wrote, written, map_after};
-ghost use Rattle.report_text.specs.Report.{count_line, value_text, change_text, more_changes, changes_text, commit_name, footprint_text, history_line, history_lines, history_part, map_line, map_lines, map_part};
+ghost use Rattle.std.specs.Prelude.{◌≡◌, ◌+◌, [], ◌∷◌, ◌++◌, decimal, IfOk, OnOk};
+ghost use Rattle.tx_model.specs.History.{wrote, written, map_after};
+ghost use Rattle.report_text.specs.Histories.{caches_of, change_text, changes_text, commit_name, footprint_text, history_line, history_lines, history_part, is_shown, map_line, map_lines, map_of_commits, map_part, more_changes, shown_entries, value_text};
 
 use crate::answers::{write_top, write_tx};
-use first_model::CommitEntry;
-use ignite_types::{Key, Mem, Scenario, Value};
+use crate::plans::write_count;
+use discovery_order::{change_running, first_top, running_from, version_after};
+use ignite_types::{Key, List, Mem, Scenario, TopVer, TopoEvent, Value};
+use ordered_set::Set;
 use ordered_table::Table;
 use scen_text::{TextOut, write_key};
 use std::alloc::Global;
-
-/// Writes a word and a number, as a line.
-pub fn write_count(out: &mut TextOut, word: &str, count: u64) -> Mem<()>
-    ensures { OnOk result (out.new ≡ out.old ++ count_line word.now count) }
-{
-    out.text(word)?;
-    out.byte(b' ')?;
-    out.number(count)?;
-    out.byte(b'\n')
-}
+use tx_model::CommitEntry;
 
 /// Writes a value, or `~` for an absent or a removed one.
 fn write_value(out: &mut TextOut, value: &Option<Value>) -> Mem<()>
@@ -87,17 +80,16 @@ fn write_footprint(out: &mut TextOut, scenario: &Scenario, entry: &CommitEntry) 
     write_changes(out, scenario, entry.writes.as_slice())
 }
 
-/// Writes the line of the commit at this place.
+/// Writes the line of a commit, the first of them having number 1.
 fn write_history_line(
     out: &mut TextOut,
     scenario: &Scenario,
-    place: usize,
+    number: u64,
     entry: &CommitEntry,
 ) -> Mem<()>
-    requires { place < usize.MAX }
-    ensures { OnOk result (out.new ≡ out.old ++ history_line scenario.now (place + 1) entry.now) }
+    ensures { OnOk result (out.new ≡ out.old ++ history_line scenario.now number entry.now) }
 {
-    out.number(place as u64 + 1)?;
+    out.number(number)?;
     out.byte(b' ')?;
     write_commit(out, scenario, entry)?;
     write_footprint(out, scenario, entry)?;
@@ -109,7 +101,7 @@ fn write_history_lines(out: &mut TextOut, scenario: &Scenario, commits: &[Commit
     ensures { OnOk result (out.new ≡ out.old ++ history_lines scenario.now 0 commits.now) }
 {
     for (place, entry) in commits.iter().enumerate() {
-        write_history_line(out, scenario, place, entry)?;
+        write_history_line(out, scenario, place as u64 + 1, entry)?;
     }
     Ok(())
 }
@@ -156,6 +148,14 @@ fn map_after(alloc: Global, commits: &[CommitEntry]) -> Mem<Table<Key, Value>>
     Ok(map)
 }
 
+/// Whether the entry's cache is one of these.
+fn is_shown(running: &[u32], entry: &(Key, Value)) -> bool
+    ensures { result ≡ is_shown running.now entry.now }
+{
+    let cache = entry.0.cache();
+    running.iter().any(|one| cache == *one)
+}
+
 /// Writes an entry of the map, as a line.
 fn write_map_line(out: &mut TextOut, scenario: &Scenario, entry: &(Key, Value)) -> Mem<()>
     ensures { OnOk result (out.new ≡ out.old ++ map_line scenario.now entry.now) }
@@ -176,16 +176,60 @@ fn write_map_lines(out: &mut TextOut, scenario: &Scenario, entries: &[(Key, Valu
     Ok(())
 }
 
-/// Writes the map that the commits leave.
-pub fn write_map(
+/// The caches that run in a version.
+fn caches_of(alloc: Global, scenario: &Scenario, events: &[TopoEvent], top: TopVer) -> Mem<Set<u32>>
+    ensures { IfOk result (λ caches. caches ≡ caches_of scenario.now events.now top) }
+{
+    let mut running = Set::from_list(running_from(alloc, scenario.caches.as_slice())?);
+    let mut version = first_top();
+    for event in events {
+        version = version_after(version, event);
+        if top < version {
+            return Ok(running);
+        }
+        change_running(&mut running, event)?;
+    }
+    Ok(running)
+}
+
+/// The entries of these caches.
+fn shown_entries(
+    alloc: Global,
+    running: &[u32],
+    entries: &[(Key, Value)],
+) -> Mem<List<(Key, Value)>>
+    ensures { IfOk result (λ shown. shown ≡ shown_entries running.now entries.now) }
+{
+    let mut shown = List::new(alloc);
+    for entry in entries {
+        if is_shown(running, entry) {
+            shown.push(*entry)?;
+        }
+    }
+    Ok(shown)
+}
+
+/// Writes a map.
+fn write_map(out: &mut TextOut, scenario: &Scenario, entries: &[(Key, Value)]) -> Mem<()>
+    ensures { OnOk result (out.new ≡ out.old ++ map_part scenario.now entries.now) }
+{
+    write_count(out, "map", entries.len() as u64)?;
+    write_map_lines(out, scenario, entries)
+}
+
+/// Writes the map that the commits leave, of the caches that run in this version after these topology events.
+pub fn write_map_of(
     alloc: Global,
     out: &mut TextOut,
     scenario: &Scenario,
+    events: &[TopoEvent],
+    top: TopVer,
     commits: &[CommitEntry],
 ) -> Mem<()>
-    ensures { OnOk result (out.new ≡ out.old ++ map_part scenario.now (map_after [] commits.now)) }
+    ensures { OnOk result (out.new ≡ out.old ++ map_of_commits scenario.now (caches_of scenario.now events.now top) commits.now) }
 {
+    let running = caches_of(alloc, scenario, events, top)?;
     let map = map_after(alloc, commits)?;
-    write_count(out, "map", map.len() as u64)?;
-    write_map_lines(out, scenario, map.as_slice())
+    let shown = shown_entries(alloc, running.as_slice(), map.as_slice())?;
+    write_map(out, scenario, shown.as_slice())
 }

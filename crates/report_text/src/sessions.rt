@@ -1,120 +1,167 @@
 //! What the sessions were answered.
 
-ghost use Rattle.std.specs.Prelude.{◌≡◌, ◌+◌, ◌<◌, [], ◌∷◌, ◌++◌, slice_get, IfOk, OnOk};
-ghost use Rattle.report_text.specs.Report.{answers_among, answers_of, answered_item, answer_line, answer_lines, session_line, session_lines, sessions_lines};
+ghost use Rattle.std.specs.Prelude.{◌≡◌, ◌+◌, [], ◌++◌, slice_get, IfOk, OnOk};
+ghost use Rattle.std.specs.Option.{option_copied};
+ghost use Rattle.base_words.specs.Script.{advance, no_progress};
+ghost use Rattle.report_text.specs.Sessions as sessions;
 
-use crate::answers::write_answer;
-use ignite_types::{Answer, Group, Item, Journal, List, Mem, Rec, Scenario, Session};
+use crate::answers::{write_node, write_told};
+use crate::digest::Given;
+use base_words::{Phase, Progress, Told};
+use ignite_types::{Answer, Item, List, Mem, Scenario, Session};
+use ordered_table::Table;
 use scen_text::{TextOut, write_item};
+use session_scripts::advance_told;
 use std::alloc::Global;
+use tx_model::{Outlook, Standing};
 
-/// Adds the answers to the session of this number among these records.
-fn push_answers(answers: &mut List<Answer>, number: usize, recs: &[Rec]) -> Mem<()>
-    ensures { OnOk result (answers.new ≡ answers.old ++ answers_among number recs.now) }
-{
-    for rec in recs {
-        if let Rec::Answer { session, answer } = rec {
-            if *session as usize == number {
-                answers.push(*answer)?;
-            }
-        }
-    }
-    Ok(())
-}
-
-/// The answers to the session of this number in these groups.
-fn answers_of(alloc: Global, number: usize, groups: &[Group]) -> Mem<List<Answer>>
-    ensures { IfOk result (λ answers. answers ≡ answers_of number groups.now) }
+/// The answers to the session of this number.
+fn answers_to(alloc: Global, number: usize, all: &[Given]) -> Mem<List<Answer>>
+    ensures { IfOk result (λ answers. answers ≡ sessions.answers_to number all.now) }
 {
     let mut answers = List::new(alloc);
-    for group in groups {
-        push_answers(&mut answers, number, group.recs.as_slice())?;
+    for given in all {
+        if given.session as usize == number {
+            answers.push(given.answer)?;
+        }
     }
     Ok(answers)
 }
 
-/// Writes the item at this place of a script, or the close of the session behind its end.
-fn write_answered(out: &mut TextOut, scenario: &Scenario, items: &[Item], place: usize) -> Mem<()>
-    ensures { OnOk result (out.new ≡ out.old ++ answered_item scenario.now (slice_get items.now place)) }
+/// What an answer tells of the item at hand, and how far the session has come after it; past the script it is that of
+/// the close.
+fn told_by(
+    alloc: Global,
+    script: &[Item],
+    progress: &Progress,
+    answer: &Answer,
+) -> Mem<(Progress, List<Told>)>
+    ensures progress { IfOk result (λ r. r.0 ≡ (advance script.now progress.now answer.now).progress) }
+    ensures told { IfOk result (λ r. r.1 ≡ sessions.told_by script.now progress.now answer.now (slice_get script.now progress.now.place)) }
 {
-    match items.get(place) {
+    let (next, mut told) = advance_told(alloc, script, progress, answer)?;
+    if script.get(progress.place as usize).is_none() {
+        told.push(Told::Plain(*answer))?;
+    }
+    Ok((next, told))
+}
+
+/// What the items, and the close behind them, were answered.
+fn all_told(alloc: Global, script: &[Item], answers: &[Answer]) -> Mem<List<Told>>
+    ensures { IfOk result (λ all. all ≡ sessions.all_told script.now no_progress answers.now) }
+{
+    let mut all = List::new(alloc);
+    let mut progress = Progress {
+        place: 0,
+        phase: Phase::Fresh,
+        ranges: Table::new(alloc),
+    };
+    for answer in answers {
+        let (next, told) = told_by(alloc, script, &progress, answer)?;
+        all.append(told)?;
+        progress = next;
+    }
+    Ok(all)
+}
+
+/// Writes an item of a script, or the close behind its end.
+fn write_answered(out: &mut TextOut, scenario: &Scenario, item: Option<&Item>) -> Mem<()>
+    ensures { OnOk result (out.new ≡ out.old ++ sessions.answered_item scenario.now (option_copied item.entry)) }
+{
+    match item {
         Some(item) => write_item(out, scenario, item),
         None => out.text("close"),
     }
 }
 
-/// Writes the line of the answer to the item at this place.
-fn write_answer_line(
+/// Writes the line of what an item was answered, the first of them having number 1.
+fn write_told_line(
     out: &mut TextOut,
     scenario: &Scenario,
-    items: &[Item],
-    place: usize,
-    answer: &Answer,
+    number: u64,
+    item: Option<&Item>,
+    told: &Told,
 ) -> Mem<()>
-    requires { place < usize.MAX }
-    ensures { OnOk result (out.new ≡ out.old ++ answer_line scenario.now (place + 1) (slice_get items.now place) answer.now) }
+    ensures { OnOk result (out.new ≡ out.old ++ sessions.told_line scenario.now number (option_copied item.entry) told.now) }
 {
-    out.number(place as u64 + 1)?;
+    out.number(number)?;
     out.byte(b' ')?;
-    write_answered(out, scenario, items, place)?;
+    write_answered(out, scenario, item)?;
     out.text(": ")?;
-    write_answer(out, scenario, answer)?;
+    write_told(out, scenario, told)?;
     out.byte(b'\n')
 }
 
-/// Writes the lines of a session's answers.
-fn write_answers(
+/// Writes the lines of what the items were answered.
+fn write_told_lines(
     out: &mut TextOut,
     scenario: &Scenario,
-    items: &[Item],
-    answers: &[Answer],
+    session: &Session,
+    all: &[Told],
 ) -> Mem<()>
-    ensures { OnOk result (out.new ≡ out.old ++ answer_lines scenario.now items.now 0 answers.now) }
+    ensures { OnOk result (out.new ≡ out.old ++ sessions.told_lines scenario.now session.now.commands 0 all.now) }
 {
-    for (place, answer) in answers.iter().enumerate() {
-        write_answer_line(out, scenario, items, place, answer)?;
+    for (place, told) in all.iter().enumerate() {
+        let item = session.commands.get(place);
+        write_told_line(out, scenario, place as u64 + 1, item, told)?;
     }
     Ok(())
 }
 
 /// Writes a session's name and node, as a line.
 fn write_session_line(out: &mut TextOut, session: &Session) -> Mem<()>
-    ensures { OnOk result (out.new ≡ out.old ++ session_line session.now) }
+    ensures { OnOk result (out.new ≡ out.old ++ sessions.session_line session.now) }
 {
     out.text("session ")?;
     out.bytes(session.name.as_slice())?;
-    out.text(" on ")?;
-    out.number(u64::from(session.node.0))?;
+    write_node(out, " on ", session.node)?;
     out.byte(b'\n')
 }
 
-/// Writes the line of the session of this number, and those of its answers.
+/// Writes with which node the session was lost, if it was.
+fn write_lost(out: &mut TextOut, stands: Option<&Standing>) -> Mem<()>
+    ensures { OnOk result (out.new ≡ out.old ++ sessions.lost_line (option_copied stands.entry)) }
+{
+    match stands {
+        Some(Standing::Lost(node)) => {
+            write_node(out, "lost: node ", *node)?;
+            out.byte(b'\n')
+        }
+        _ => Ok(()),
+    }
+}
+
+/// Writes the line of a session, and those of its answers and its loss.
 fn write_session(
     alloc: Global,
     out: &mut TextOut,
-    journal: &Journal,
-    number: usize,
+    scenario: &Scenario,
     session: &Session,
+    answers: &[Answer],
+    stands: Option<&Standing>,
 ) -> Mem<()>
-    ensures { OnOk result (out.new ≡ out.old ++ session_lines journal.now number session.now) }
+    ensures { OnOk result (out.new ≡ out.old ++ sessions.session_lines scenario.now session.now answers.now (option_copied stands.entry)) }
 {
-    let answers = answers_of(alloc, number, journal.groups.as_slice())?;
+    let all = all_told(alloc, session.commands.as_slice(), answers)?;
     write_session_line(out, session)?;
-    write_answers(
-        out,
-        &journal.scenario,
-        session.commands.as_slice(),
-        answers.as_slice(),
-    )
+    write_told_lines(out, scenario, session, all.as_slice())?;
+    write_lost(out, stands)
 }
 
 /// Writes the lines of all of the sessions.
-pub fn write_sessions(alloc: Global, out: &mut TextOut, journal: &Journal) -> Mem<()>
-    ensures { OnOk result (out.new ≡ out.old ++ sessions_lines journal.now 0 journal.now.scenario.sessions) }
+pub fn write_sessions(
+    alloc: Global,
+    out: &mut TextOut,
+    scenario: &Scenario,
+    given: &[Given],
+    shown: &Outlook,
+) -> Mem<()>
+    ensures { OnOk result (out.new ≡ out.old ++ sessions.sessions_lines scenario.now given.now shown.now.standings 0 scenario.now.sessions) }
 {
-    let sessions = journal.scenario.sessions.as_slice();
-    for (place, session) in sessions.iter().enumerate() {
-        write_session(alloc, out, journal, place + 1, session)?;
+    for (place, session) in scenario.sessions.as_slice().iter().enumerate() {
+        let answers = answers_to(alloc, place + 1, given)?;
+        let stands = shown.standings.get(place);
+        write_session(alloc, out, scenario, session, answers.as_slice(), stands)?;
     }
     Ok(())
 }

@@ -1,105 +1,314 @@
+//! Worked reports: their texts are those of the format's description.
+
 use crate::{report, write_answer};
-use first_model::CommitEntry;
 use ignite_types::{
-    Answer, Cache, CacheVersion, Command, End, Event, Fail as Failure, Fault, Group, Item, Journal,
-    Key, List, Mem, Mode, NodeId, Rec, Scenario, Session, TopVer, TxId, Value,
+    Answer, CacheVersion, Edge, End, Event, Fail as Failure, Fault, Group, Journal, Key, List, Mem,
+    NoLoss, NodeId, Rec, TopVer, TopoEvent, TxId, Value, Wait,
 };
-use scen_text::TextOut;
+use scen_text::{TextOut, read_scenario};
 use std::alloc::Global;
 use std::test::Fail;
+use tx_model::{CommitEntry, Outlook, Standing};
 
 const TOP: TopVer = TopVer { major: 1, minor: 0 };
 
-const TX: TxId = TxId {
+const A: TxId = TxId {
     node: NodeId(1),
     session: 1,
     number: 7,
 };
 
-/// A scenario with the session A, whose script is these items.
-fn scenario(alloc: Global, items: &[Item]) -> Mem<Scenario> {
-    let mut caches = List::new(alloc);
-    caches.push(Cache {
-        name: List::from_slice(alloc, b"default")?,
-        parts: 8,
-        backups: 0,
-        near: 0,
-        first: true,
-        data: false,
-    })?;
-    let mut sessions = List::new(alloc);
-    sessions.push(Session {
-        name: List::from_slice(alloc, b"A")?,
-        node: NodeId(1),
-        commands: List::from_slice(alloc, items)?,
-    })?;
-    Ok(Scenario {
-        format: 1,
-        caches,
-        nodes: List::new(alloc),
-        plan: List::new(alloc),
-        sessions,
-    })
+const B: TxId = TxId {
+    node: NodeId(2),
+    session: 2,
+    number: 3,
+};
+
+/// Of format 1: a session with a close, one that is lost, and a plan of which two steps are refused.
+const FIRST: &[u8] = b"scenario 1
+parts 8
+server 1
+server 2
+plan 5 lose 2
+plan 6 lose 2
+plan 7 lose 1
+session A 1
+put a 1
+end
+session B 2
+get b
+get a
+end
+";
+
+const FIRST_REPORT: &[u8] = b"session A on 1
+1 put a 1: ok
+2 close: rolled back
+session B on 2
+1 get b: none
+lost: node 2
+plan 3
+5 lose 2: ok
+6 lose 2: refused not in
+7 lose 1: refused partition 3
+deadlocks 1
+A#7 edges 2
+A#7 waits for B#3 on a at 1
+B#3 waits for A#7 on b at 2
+history 1
+1 A#7 1.0 reads b=~ writes a=1,b=~
+map 1
+a=1
+top 2.1
+end 0
+";
+
+/// Of format 2: data commands, a cache that stops, and three sessions that wait.
+const SECOND: &[u8] = b"scenario 2
+cache c 4 0 0
+cache e 4 0 0
+data d 8 0 0
+server 1
+server 2
+plan 3 stop e
+plan 4 lose 1
+session A 1
+next d/s
+next d/s
+poll d/q
+end
+session B 2
+get c/x
+end
+session C 1
+get c/x
+end
+session D 1
+get c/x
+end
+";
+
+const SECOND_REPORT: &[u8] = b"session A on 1
+1 next d/s: value 1
+2 next d/s: value 2
+3 poll d/q: empty
+session B on 2
+session C on 1
+session D on 1
+plan 2
+3 stop e: ok
+4 lose 1: refused partition d/1
+deadlocks 0
+history 1
+1 A#7 1.0 reads - writes c/x=1,e/y=2
+map 1
+c/x=1
+top 1.1
+stalled B: B#3 waits for A#7 on c/x at 1
+stalled C: waits for version 1.1 held by A#7
+stalled D: waits for link 1 2
+end 1
+";
+
+const IDLE: &[u8] = b"scenario 1
+server 1
+session A 1
+end
+";
+
+const TRACED_REPORT: &[u8] = b"session A on 1
+plan 0
+deadlocks 0
+history 0
+map 0
+top 1.0
+trace 10
+1 answer A
+2 act 1 2
+3 send 3
+4 see 4
+5 expire A#7
+6 minor 5
+7 call A
+8 plan
+9 tick
+10 memory 6
+end 5
+";
+
+/// A group for each of these events, the records being all of the first one.
+fn groups(alloc: Global, events: &[Event], recs: List<Rec>) -> Mem<List<Group>> {
+    let mut groups = List::new(alloc);
+    let mut left = recs;
+    for event in events {
+        groups.push(Group {
+            event: *event,
+            recs: left,
+        })?;
+        left = List::new(alloc);
+    }
+    Ok(groups)
 }
 
-/// A group of these records.
-fn group(alloc: Global, first: Rec, second: Rec) -> Mem<Group> {
-    let mut recs = List::new(alloc);
-    recs.push(first)?;
-    recs.push(second)?;
-    Ok(Group {
-        event: Event::Answer(1),
-        recs,
-    })
+fn edge(node: u32, key: Key, waiter: TxId, holder: TxId) -> Edge {
+    Edge {
+        node: NodeId(node),
+        act: 9,
+        wait: Wait {
+            key,
+            waiter,
+            holder,
+        },
+    }
+}
+
+fn answer(session: u32, answer: Answer) -> Rec {
+    Rec::Answer { session, answer }
+}
+
+fn planned(place: usize, refused: Option<NoLoss>) -> Rec {
+    Rec::Planned { place, refused }
+}
+
+fn opened(major: u64, minor: u64) -> Rec {
+    Rec::Opened {
+        top: TopVer { major, minor },
+    }
+}
+
+/// The records of a run of the first scenario, in which one search finds no circle.
+fn first_records(alloc: Global, a: Key, b: Key) -> Mem<List<Rec>> {
+    let edges = [edge(1, a, A, B), edge(2, b, B, A)];
+    let recs = vec![in alloc;
+        answer(1, Answer::Done),
+        answer(2, Answer::Absent),
+        answer(1, Answer::RolledBack),
+        planned(0, None),
+        planned(1, Some(NoLoss::NotIn)),
+        planned(2, Some(NoLoss::LeavesPartition(3))),
+        Rec::Searched {
+            tx: B,
+            edges: List::new(alloc)
+        },
+        Rec::Searched {
+            tx: A,
+            edges: List::from_slice(alloc, &edges)?
+        },
+        opened(2, 1),
+        opened(2, 0),
+    ]?;
+    Ok(List::from_vec(recs))
 }
 
 #[test]
-fn reports_a_journal(rt: HostRuntime) -> Result<(), Fail> {
+fn reports_format_1(rt: HostRuntime) -> Result<(), Fail> {
     let alloc = rt.alloc();
-    let key = Key::read(b"a")?;
-    let other = Key::read(b"b")?;
-    let value = Value::read(b"1")?;
-    let items = [Item::Plain(Command::Put(key, value))];
-    let mut groups = List::new(alloc);
-    let call = Rec::Call {
-        session: 1,
-        command: Command::Put(key, value),
-    };
-    let done = Rec::Answer {
-        session: 1,
-        answer: Answer::Done,
-    };
-    groups.push(group(alloc, call, done)?)?;
-    let opened = Rec::Opened {
-        top: TopVer { major: 2, minor: 1 },
-    };
-    let closed = Rec::Answer {
-        session: 1,
-        answer: Answer::RolledBack,
-    };
-    groups.push(group(alloc, opened, closed)?)?;
+    let a = Key::read(b"a")?;
+    let b = Key::read(b"b")?;
     let journal = Journal {
-        scenario: scenario(alloc, &items)?,
-        groups,
-        end: End::Stalled,
+        scenario: read_scenario(alloc, FIRST)?,
+        groups: groups(alloc, &[Event::Tick], first_records(alloc, a, b)?)?,
+        end: End::AllEnded,
+    };
+    let shown = Outlook {
+        standings: List::from_slice(alloc, &[Standing::Ended, Standing::Lost(NodeId(2))])?,
+        events: List::new(alloc),
     };
     let commits = [CommitEntry {
-        tx: TX,
+        tx: A,
         top: TOP,
-        reads: List::from_slice(alloc, &[(other, None)])?,
-        writes: List::from_slice(alloc, &[(key, Some(value)), (other, None)])?,
+        reads: List::from_slice(alloc, &[(b, None)])?,
+        writes: List::from_slice(alloc, &[(a, Some(Value::read(b"1")?)), (b, None)])?,
     }];
-    let text = report(alloc, &journal, &commits)?;
-    let expected =
-        b"session A on 1\n1 put a 1: ok\n2 close: rolled back\nplan 0\ndeadlocks 0\nhistory 1\n1 A#7 1.0 reads b=~ writes a=1,b=~\nmap 1\na=1\ntop 2.1\nend 1\n";
-    assert_eq!(rt; text.as_slice(), expected.as_slice());
+    let text = report(alloc, &journal, &shown, &commits, false)?;
+    assert_eq!(rt; text.as_slice(), FIRST_REPORT);
+    Ok(())
+}
+
+/// The records of a run of the second scenario: ten numbers are drawn at once, of which the second is kept.
+fn second_records(alloc: Global, ten: Value) -> Mem<List<Rec>> {
+    let recs = vec![in alloc;
+        answer(1, Answer::Found(ten)),
+        answer(1, Answer::Done),
+        answer(1, Answer::Absent),
+        answer(1, Answer::Absent),
+        answer(1, Answer::Committed),
+        planned(0, None),
+        planned(1, Some(NoLoss::LeavesPartition(9))),
+        opened(1, 1),
+    ]?;
+    Ok(List::from_vec(recs))
+}
+
+#[test]
+fn reports_format_2(rt: HostRuntime) -> Result<(), Fail> {
+    let alloc = rt.alloc();
+    let x = Key::in_cache(0, b"x")?;
+    let y = Key::in_cache(1, b"y")?;
+    let journal = Journal {
+        scenario: read_scenario(alloc, SECOND)?,
+        groups: groups(
+            alloc,
+            &[Event::Tick],
+            second_records(alloc, Value::read(b"10")?)?,
+        )?,
+        end: End::Stalled,
+    };
+    let standings = [
+        Standing::Ended,
+        Standing::Queued(NodeId(1), edge(1, x, B, A).wait),
+        Standing::Unopened(TopVer { major: 1, minor: 1 }, A),
+        Standing::Held(NodeId(1), NodeId(2)),
+    ];
+    let shown = Outlook {
+        standings: List::from_slice(alloc, &standings)?,
+        events: List::from_slice(alloc, &[TopoEvent::Stop(1)])?,
+    };
+    let writes = [(x, Some(Value::read(b"1")?)), (y, Some(Value::read(b"2")?))];
+    let commits = [CommitEntry {
+        tx: A,
+        top: TOP,
+        reads: List::new(alloc),
+        writes: List::from_slice(alloc, &writes)?,
+    }];
+    let text = report(alloc, &journal, &shown, &commits, false)?;
+    assert_eq!(rt; text.as_slice(), SECOND_REPORT);
+    Ok(())
+}
+
+#[test]
+fn reports_traces(rt: HostRuntime) -> Result<(), Fail> {
+    let alloc = rt.alloc();
+    let events = [
+        Event::Answer(1),
+        Event::Act(NodeId(1), NodeId(2)),
+        Event::Send(NodeId(3)),
+        Event::See(NodeId(4)),
+        Event::Expire(A),
+        Event::Minor(NodeId(5)),
+        Event::Call(1),
+        Event::Plan,
+        Event::Tick,
+        Event::Memory(NodeId(6)),
+    ];
+    let journal = Journal {
+        scenario: read_scenario(alloc, IDLE)?,
+        groups: groups(alloc, &events, List::new(alloc))?,
+        end: End::Memory,
+    };
+    let shown = Outlook {
+        standings: List::from_slice(alloc, &[Standing::Ended])?,
+        events: List::new(alloc),
+    };
+    let text = report(alloc, &journal, &shown, &[], true)?;
+    assert_eq!(rt; text.as_slice(), TRACED_REPORT);
     Ok(())
 }
 
 #[test]
 fn writes_answers(rt: HostRuntime) -> Result<(), Fail> {
     let alloc = rt.alloc();
-    let scenario = scenario(alloc, &[])?;
+    let scenario = read_scenario(alloc, IDLE)?;
     let key = Key::read(b"k")?;
     let had = CacheVersion {
         top: TOP,
@@ -111,7 +320,7 @@ fn writes_answers(rt: HostRuntime) -> Result<(), Fail> {
         had,
         has: CacheVersion { order: 4, ..had },
     };
-    let locked = Failure::Candidate { key, holder: TX };
+    let locked = Failure::Candidate { key, holder: A };
     let answers = [
         (Answer::Done, "ok"),
         (Answer::Found(Value::read(b"1")?), "value 1"),

@@ -1,89 +1,86 @@
 //! The report.
 
-ghost use Rattle.std.specs.Prelude.{◌≡◌, [], ◌++◌, IfOk, OnOk};
-ghost use Rattle.report_text.specs.Report.{later, top_among, top_in, first_top, top_line, end_status, last_lines, report};
+ghost use Rattle.std.specs.Prelude.{◌≡◌, ◌++◌, IfOk, OnOk};
+ghost use Rattle.report_text.specs.Report as reports;
 
-use crate::answers::write_top;
-use crate::history::{write_count, write_history, write_map};
+use crate::digest::{Digest, digest_of};
+use crate::endings::{end_status, write_stalled_part, write_top_line};
+use crate::history::{write_history, write_map_of};
+use crate::plans::{write_count, write_deadlocks, write_plan};
 use crate::sessions::write_sessions;
-use first_model::CommitEntry;
-use ignite_types::{End, Group, Journal, Mem, Rec, TopVer};
+use crate::traces::write_trace;
+use ignite_types::{Journal, Mem, Scenario};
 use scen_text::TextOut;
 use std::alloc::Global;
-use std::cmp::Ordering;
+use tx_model::{CommitEntry, Outlook};
 
-/// The later of two versions.
-fn later(a: TopVer, b: TopVer) -> TopVer
-    ensures { result ≡ later a b }
+/// Writes the sessions, the plan and the deadlocks.
+fn write_first(
+    alloc: Global,
+    out: &mut TextOut,
+    scenario: &Scenario,
+    found: &Digest,
+    shown: &Outlook,
+) -> Mem<()>
+    ensures { OnOk result (out.new ≡ out.old ++ reports.first_parts scenario.now found.now shown.now) }
 {
-    match a.cmp(&b) {
-        Ordering::Less => b,
-        _ => a,
-    }
+    write_sessions(alloc, out, scenario, found.answers.as_slice(), shown)?;
+    write_plan(out, scenario, found.steps.as_slice())?;
+    write_deadlocks(out, scenario, found.deadlocks.as_slice())
 }
 
-/// The latest of this version and those opened in these records.
-fn top_among(top: TopVer, recs: &[Rec]) -> TopVer
-    ensures { result ≡ top_among top recs.now }
+/// Writes the history and the map after it.
+fn write_middle(
+    alloc: Global,
+    out: &mut TextOut,
+    scenario: &Scenario,
+    found: &Digest,
+    shown: &Outlook,
+    commits: &[CommitEntry],
+) -> Mem<()>
+    ensures { OnOk result (out.new ≡ out.old ++ reports.middle_parts scenario.now found.now shown.now commits.now) }
 {
-    let mut highest = top;
-    for rec in recs {
-        if let Rec::Opened { top } = rec {
-            highest = later(highest, *top);
-        }
-    }
-    highest
+    write_history(out, scenario, commits)?;
+    write_map_of(
+        alloc,
+        out,
+        scenario,
+        shown.events.as_slice(),
+        found.top,
+        commits,
+    )
 }
 
-/// The highest version that was opened in these groups.
-fn highest_top(groups: &[Group]) -> TopVer
-    ensures { result ≡ top_in first_top groups.now }
+/// Writes the highest version, what the sessions wait for, the trace and the end.
+fn write_last(
+    out: &mut TextOut,
+    journal: &Journal,
+    found: &Digest,
+    shown: &Outlook,
+    trace: bool,
+) -> Mem<()>
+    ensures { OnOk result (out.new ≡ out.old ++ reports.last_parts journal.now found.now shown.now trace) }
 {
-    let mut highest = TopVer { major: 1, minor: 0 };
-    for group in groups {
-        highest = top_among(highest, group.recs.as_slice());
-    }
-    highest
-}
-
-/// The status of a run that ended so.
-fn end_status(end: End) -> u64
-    ensures { result ≡ end_status end }
-{
-    match end {
-        End::AllEnded => 0,
-        End::Stalled => 1,
-        End::StepLimit => 4,
-        End::Memory => 5,
-    }
-}
-
-/// Writes a version, as a line.
-fn write_top_line(out: &mut TextOut, top: &TopVer) -> Mem<()>
-    ensures { OnOk result (out.new ≡ out.old ++ top_line top.now) }
-{
-    out.text("top ")?;
-    write_top(out, top)?;
-    out.byte(b'\n')
-}
-
-/// Writes the lines after the map.
-fn write_last(out: &mut TextOut, journal: &Journal) -> Mem<()>
-    ensures { OnOk result (out.new ≡ out.old ++ last_lines journal.now) }
-{
-    write_top_line(out, &highest_top(journal.groups.as_slice()))?;
+    write_top_line(out, &found.top)?;
+    write_stalled_part(out, &journal.scenario, shown, journal.end)?;
+    write_trace(out, &journal.scenario, journal.groups.as_slice(), trace)?;
     write_count(out, "end", end_status(journal.end))
 }
 
-/// The report of a journal with these commits. Plan steps and deadlocks are not counted yet: no run has any.
-pub fn report(alloc: Global, journal: &Journal, commits: &[CommitEntry]) -> Mem<Vec<u8>>
-    ensures { IfOk result (λ bytes. bytes.items ≡ report journal.now commits.now) }
+/// The report of a journal with these commits, whose world shows this at its end, with or without the trace.
+pub fn report(
+    alloc: Global,
+    journal: &Journal,
+    shown: &Outlook,
+    commits: &[CommitEntry],
+    trace: bool,
+) -> Mem<Vec<u8>>
+    ensures { IfOk result (λ bytes. bytes.items ≡ reports.report journal.now shown.now commits.now trace) }
 {
     let mut out = TextOut::new(alloc);
-    write_sessions(alloc, &mut out, journal)?;
-    out.text("plan 0\ndeadlocks 0\n")?;
-    write_history(&mut out, &journal.scenario, commits)?;
-    write_map(alloc, &mut out, &journal.scenario, commits)?;
-    write_last(&mut out, journal)?;
+    let found = digest_of(alloc, journal.groups.as_slice())?;
+    write_first(alloc, &mut out, &journal.scenario, &found, shown)?;
+    write_middle(alloc, &mut out, &journal.scenario, &found, shown, commits)?;
+    write_last(&mut out, journal, &found, shown, trace)?;
     Ok(out.into_vec())
 }

@@ -1,61 +1,35 @@
--- What a run in work keeps: each event that was the first possible one adds a step of the machine.
-use Rattle.std.proofs.Common.{◌≡◌, ℕ, Bool, true, false, List, [], ◌∷◌, ◌++◌, Option, Some, None, IsTrue, slice_get, filter, map, cond, ◌&&◌, length, ◌+◌, length-append, refl, sym, ◌∙◌, ap, arith, subst}
+-- What a run in work keeps: each event that the schedule picked adds a step of the machine.
+use Rattle.std.proofs.Common.{◌≡◌, ◌≢◌, ℕ, zero, suc, Bool, true, false, List, [], ◌∷◌, ◌++◌, Option, Some, None, IfNone, IsTrue, slice_get, length, ◌+◌, ◌-◌, ◌^◌, ◌<◌, ◌≤◌, ◌%◌, ◌&&◌, length-append, min, refl, sym, ◌∙◌, ap, arith, subst, inl, add-one, add_assoc}
 use Rattle.std.specs.List.{list_all}
+use Rattle.std.proofs.lemmas.Option.{slice_get-get_or}
 use Rattle.ignite_types.specs.declared.journal.Event.{Event}
-use Rattle.ignite_types.specs.declared.journal.Event.TheVariants as event
 use Rattle.ignite_types.specs.declared.journal.Group.{Group}
-use Rattle.ignite_types.specs.declared.names.NodeId.{NodeId}
 use Rattle.ignite_types.specs.declared.scenario.Scenario.{Scenario}
-use Rattle.first_model.specs.Opening.{opening}
-use Rattle.first_model.specs.Runs.{after, IsStep, AreSteps, AreFirst}
-use Rattle.first_model.specs.World.{World, outcome, enabled, possible, possible_of, possible_acts, ids, sessions}
+use Rattle.rand_pcg.specs.Lcg.{Lcg}
+use Rattle.sched_seed.specs.Picks.{after_pick, next_pick, pick, picker_at}
+use Rattle.sched_seed.specs.Words.{word_of}
+use Rattle.sched_seed.proofs.PickLemmas.{picks_at}
+use Rattle.tx_model.specs.Opening.{opening}
+use Rattle.tx_model.specs.Runs.{after, IsPicked, IsStep, AreSteps, ArePicked}
+use Rattle.tx_model.specs.World.{World, enabled, outcome, possible}
 use Rattle.world_core.specs.Run.{Run, begun, stepped, KeepsPast}
-use Rattle.sim_top.specs.Drive.{PastFollows, Follows, Advances, Moves}
-
-all_of_filter : {X : Type 0} (p : X → Bool) (xs : List X) → list_all p (filter p xs) ≡ true
-all_of_filter p [] = refl
-all_of_filter p (x ∷ xs) =
-    elim (p x) as (λ b. p x ≡ b → list_all p (cond b (x ∷ filter p xs) (filter p xs)) ≡ true) [
-      | true ↦ λ e. rw e (all_of_filter p xs)
-      | false ↦ λ e. all_of_filter p xs
-    ] refl
-
-all_of_append : {X : Type 0} (p : X → Bool) (xs ys : List X) → list_all p xs ≡ true → list_all p ys ≡ true → list_all p (xs ++ ys) ≡ true
-all_of_append p [] ys a b = b
-all_of_append p (x ∷ xs) ys a b =
-    elim (p x) as (λ c. (c && list_all p xs) ≡ true → (c && list_all p (xs ++ ys)) ≡ true) [
-      | true ↦ λ e. all_of_append p xs ys e b
-      | false ↦ λ e. e
-    ] a
-
-all_acts : (w : World) (senders nodes : List NodeId) → list_all (enabled w) (possible_acts w senders nodes) ≡ true
-all_acts w senders [] = refl
-all_acts w senders (id ∷ more) =
-    all_of_append (enabled w) (possible_of w (map (event.Act id) senders)) (possible_acts w senders more)
-    (all_of_filter (enabled w) (map (event.Act id) senders)) (all_acts w senders more)
-
--- each possible event is enabled
-pub all_possible : (w : World) → list_all (enabled w) (possible w) ≡ true
-all_possible w =
-    let answers = possible_of w (map event.Answer (sessions w)) in
-    let acts = possible_acts w (ids w) (ids w) in
-    let sends = possible_of w (map event.Send (ids w)) in
-    let calls = possible_of w (map event.Call (sessions w)) in
-    all_of_append (enabled w) (answers ++ acts ++ sends) calls
-    (all_of_append (enabled w) (answers ++ acts) sends
-    (all_of_append (enabled w) answers acts (all_of_filter (enabled w) (map event.Answer (sessions w))) (all_acts w (ids w) (ids w)))
-    (all_of_filter (enabled w) (map event.Send (ids w))))
-    (all_of_filter (enabled w) (map event.Call (sessions w)))
+use Rattle.sim_top.specs.Drive.{PastFollows, Follows, Advances, AllPicked, Moves, counted, picks}
+use Rattle.sim_top.proofs.WorldLaws.{all_possible, enabled_of, may_be, no_memory_of, whole_after}
 
 and_left : (a b : Bool) → (a && b) ≡ true → a ≡ true
 and_left true b h = refl
 and_left false b h = h
 
-first_passes : {X : Type 0} (p : X → Bool) (xs : List X) (x : X) → list_all p xs ≡ true → slice_get xs 0 ≡ Some x → p x ≡ true
-first_passes p [] x all first = absurd (cc first)
-first_passes p (y ∷ ys) x all first =
-    let same : y ≡ x = cc first in
+and_right : (a b : Bool) → (a && b) ≡ true → b ≡ true
+and_right true b h = h
+and_right false b h = absurd (cc h)
+
+picked_passes : {X : Type 0} (p : X → Bool) (xs : List X) (i : ℕ) (x : X) → list_all p xs ≡ true → slice_get xs i ≡ Some x → p x ≡ true
+picked_passes p [] i x all at = absurd (cc at)
+picked_passes p (y ∷ ys) zero x all at =
+    let same : y ≡ x = cc at in
     subst (λ v. p v ≡ true) same (and_left (p y) (list_all p ys) all)
+picked_passes p (y ∷ ys) (suc i) x all at = picked_passes p ys i x (and_right (p y) (list_all p ys) all) at
 
 pub after_append : (w : World) (gs : List Group) (g : Group) → after w (gs ++ g ∷ []) ≡ (outcome (after w gs) g.event).world
 after_append w [] g = refl
@@ -65,44 +39,84 @@ pub steps_append : (w : World) (gs : List Group) (g : Group) → AreSteps w gs �
 steps_append w [] g steps step = (step, tt)
 steps_append w (h ∷ hs) g steps step = (steps.0, steps_append (outcome w h.event).world hs g steps.1 step)
 
-pub first_append : (w : World) (gs : List Group) (g : Group) → AreFirst w gs → slice_get (possible (after w gs)) 0 ≡ Some g.event → AreFirst w (gs ++ g ∷ [])
-first_append w [] g firsts first = (first, tt)
-first_append w (h ∷ hs) g firsts first = (firsts.0, first_append (outcome w h.event).world hs g firsts.1 first)
+-- one more picked event behind the others, whose number counts these
+picked_append : (seed k n : ℕ) (w : World) (gs : List Group) (g : Group) → n ≡ k + length gs → AllPicked seed k w gs → IsPicked (picks seed n (length (possible (after w gs)))) (after w gs) g.event → AllPicked seed k w (gs ++ g ∷ [])
+picked_append seed k n w [] g is all last = let e : n ≡ k = omega (arith, is) in (subst (λ (m : ℕ). IsPicked (picks seed m (length (possible w))) w g.event) e last, tt)
+picked_append seed k n w (h ∷ hs) g is all last =
+    (all.0, picked_append seed (k + 1) n (outcome w h.event).world hs g (omega (arith, is)) all.1 last)
 
-pub follows_begun : (s : Scenario) → Follows (begun s)
-follows_begun s = record { past = record { steps = tt; first = tt }; now = refl }
+-- picked events follow a schedule
+pub are_picked : (seed k : ℕ) (w : World) (gs : List Group) → AllPicked seed k w gs → ArePicked (picks seed) k w gs
+are_picked seed k w [] all = tt
+are_picked seed k w (g ∷ gs) all = (inl all.0, are_picked seed (k + 1) (outcome w g.event).world gs all.1)
 
-pub follows_stepped : (r : Run) (e : Event) → Follows r → slice_get (possible r.now) 0 ≡ Some e → Follows (stepped r e)
-follows_stepped r e h first =
+pub follows_begun : (seed : ℕ) (s : Scenario) → Follows seed (begun s)
+follows_begun seed s = record { past = record { steps = tt; picked = tt }; now = refl; whole = refl }
+
+pub follows_stepped : (seed k : ℕ) (r : Run) (e : Event) → length r.past ≡ k → Follows seed r → slice_get (possible r.now) (picks seed k (length (possible r.now))) ≡ Some e → Follows seed (stepped r e)
+follows_stepped seed k r e many h at =
     let g : Group = record { event = e; recs = (outcome r.now e).recs } in
-    let step : IsStep r.now g = record { possible_event = first_passes (enabled r.now) (possible r.now) e (all_possible r.now) first; same_records = refl } in
+    let may : may_be r.now e ≡ true = picked_passes (may_be r.now) (possible r.now) _ e (all_possible r.now) at in
+    let step : IsStep r.now g = record { possible_event = enabled_of r.now e h.whole may; same_records = refl } in
+    let last : IsPicked (picks seed k (length (possible r.now))) r.now e = at in
+    let behind : k ≡ 0 + length r.past = omega (arith, many) in
     record {
       past = record {
         steps = steps_append (opening r.scenario) r.past g h.past.steps (subst (λ (w : World). IsStep w g) h.now step);
-        first = first_append (opening r.scenario) r.past g h.past.first (subst (λ (w : World). slice_get (possible w) 0 ≡ Some e) h.now first);
+        picked = picked_append seed 0 k (opening r.scenario) r.past g behind h.past.picked
+            (subst (λ (w : World). IsPicked (picks seed k (length (possible w))) w e) h.now last);
       };
       now = ap (λ (w : World). (outcome w e).world) h.now ∙ sym (after_append (opening r.scenario) r.past g);
+      whole = whole_after r.now e (no_memory_of r.now e may) ∙ h.whole;
     }
 
-pub follows_next : (r r' : Run) → Follows r → Advances r r' → Follows r'
-follows_next r r' h a = subst (λ (x : Run). Follows x) (sym a.is) (follows_stepped r a.event h a.first)
+-- by the picker that stands before this pick
+pub follows_next : (seed k : ℕ) (picker : Option Lcg) (r r' : Run) → picker ≡ picker_at seed k → length r.past ≡ k → Follows seed r → Advances picker r r' → Follows seed r'
+follows_next seed k picker r r' at many h a =
+    let n : ℕ = counted (length (possible r.now)) in
+    let place : next_pick picker n ≡ pick seed k n = ap (λ (p : Option Lcg). next_pick p n) at ∙ (picks_at seed k n).0 in
+    let is : slice_get (possible r.now) (pick seed k n) ≡ Some a.event = subst (λ (i : ℕ). slice_get (possible r.now) i ≡ Some a.event) place a.picked in
+    subst (λ (x : Run). Follows seed x) (sym a.is) (follows_stepped seed k r a.event many h is)
 
-pub past_kept : (r r' : Run) → Follows r → KeepsPast r r' → PastFollows r'
-past_kept r r' h k = record {
+pub next_picker : (seed k : ℕ) (picker next : Option Lcg) → picker ≡ picker_at seed k → next ≡ after_pick picker → next ≡ picker_at seed (k + 1)
+next_picker seed k picker next at is = is ∙ ap after_pick at ∙ (picks_at seed k 0).1
+
+pub past_kept : (seed : ℕ) (r r' : Run) → Follows seed r → KeepsPast r r' → PastFollows seed r'
+past_kept seed r r' h k = record {
   steps = rw (k.scenario, k.past) h.past.steps;
-  first = rw (k.scenario, k.past) h.past.first;
+  picked = rw (k.scenario, k.past) h.past.picked;
 }
 
-pub none_first : {X : Type 0} (xs : List X) → None ≡ slice_get xs 0 → xs ≡ []
-none_first [] h = refl
-none_first (x ∷ xs) h = absurd (cc h)
+pub one_longer : (picker : Option Lcg) (r r' : Run) (n : ℕ) → length r.past ≡ n → Advances picker r r' → length r'.past ≡ n + 1
+one_longer picker r r' n h a = rw a.is (simp length-append (omega (arith, h)))
 
-pub one_longer : (r r' : Run) (n : ℕ) → length r.past ≡ n → Advances r r' → length r'.past ≡ n + 1
-one_longer r r' n h a = rw a.is (simp length-append (omega (arith, h)))
+pub same_scenario : (picker : Option Lcg) (r r' : Run) → Advances picker r r' → r'.scenario ≡ r.scenario
+same_scenario picker r r' a = ap (λ (x : Run). x.scenario) a.is
 
-pub same_scenario : (r r' : Run) → Advances r r' → r'.scenario ≡ r.scenario
-same_scenario r r' a = ap (λ (x : Run). x.scenario) a.is
+pub moved : (picker next : Option Lcg) (b : Bool) (r r' : Run) → b ≡ true → Moves picker next b r r' → Advances picker r r' × (next ≡ after_pick picker)
+moved picker next true r r' h m = m
+moved picker next false r r' h m = absurd (cc h)
 
-pub moved : (b : Bool) (r r' : Run) → b ≡ true → Moves b r r' → Advances r r'
-moved true r r' h m = m
-moved false r r' h m = absurd (cc h)
+-- a picker picks one of several events
+pub pick_inside : (picker : Option Lcg) (n : ℕ) → 1 ≤ n → next_pick picker n < n
+pick_inside None n some = omega (arith, some)
+pick_inside (Some g) n some = omega (arith, some)
+
+pub counted_inside : (n : ℕ) → 1 ≤ n → (1 ≤ counted n) × (counted n ≤ n)
+counted_inside n some = (omega (arith, some), omega (arith, some))
+
+-- at a place inside a list there is something
+inside_some : {X : Type 0} (xs : List X) (i : ℕ) → i < length xs → IfNone (slice_get xs i) (xs ≡ [])
+inside_some [] i inside = absurd (omega (arith, inside))
+inside_some (x ∷ xs) i inside = rw (slice_get-get_or (x ∷ xs) i x inside) tt
+
+-- of some events one is picked
+pub picks_some : {X : Type 0} (picker : Option Lcg) (xs : List X) → 1 ≤ length xs → IfNone (slice_get xs (next_pick picker (counted (length xs)))) (xs ≡ [])
+picks_some picker xs some =
+    let bound : (1 ≤ counted (length xs)) × (counted (length xs) ≤ length xs) = counted_inside (length xs) some in
+    let inside : next_pick picker (counted (length xs)) < counted (length xs) = pick_inside picker (counted (length xs)) bound.0 in
+    inside_some xs (next_pick picker (counted (length xs))) (omega (arith, bound, inside))
+
+pub some_of : {X : Type 0} (xs : List X) → (xs ≡ [] → IsTrue false) → 1 ≤ length xs
+some_of [] some = absurd (cc (some refl))
+some_of (x ∷ xs) some = omega arith

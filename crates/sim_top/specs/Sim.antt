@@ -1,5 +1,8 @@
 -- What a call of the simulator comes to: its status, its journal, and the text that is to be written.
-use Rattle.std.specs.Prelude.{◌≡◌, ◌≢◌, ℕ, List, [], Option, Some, None, Result, Ok, Err, IfSome, length, codes, if◌then◌else◌, ◌++◌, ◌∷◌}
+use Rattle.std.specs.Prelude.{◌≡◌, ◌≢◌, ◌⊎◌, ◌||◌, ℕ, List, [], Option, Some, None, Ok, Err, IfSome, is_some, length, codes, if◌then◌else◌, ◌++◌, ◌∷◌}
+use Rattle.std.specs.Option.{option_and_then}
+use Rattle.command_words.specs.Line.{line}
+use Rattle.command_words.specs.declared.SimWords.{SimWords}
 use Rattle.ignite_types.specs.declared.journal.End.{End}
 use Rattle.ignite_types.specs.declared.journal.End.TheVariants as end
 use Rattle.ignite_types.specs.declared.journal.Journal.{Journal}
@@ -13,15 +16,18 @@ use Rattle.report_text.specs.Report.{report_of}
 use Rattle.scen_text.specs.Causes.{Refusal, refusal_text}
 use Rattle.scen_text.specs.declared.cause.Cause.{Cause}
 use Rattle.scen_text.specs.Reading.{scenario_of}
-use Rattle.scen_text.specs.Runnable.{not_yet}
-use Rattle.scen_text.specs.declared.cause.Cause.TheVariants.{NotYet}
-use Rattle.first_model.specs.Opening.{opening}
-use Rattle.first_model.specs.Runs.{after, AreSteps, AreFirst, IsLegal, IsScheduled}
-use Rattle.first_model.specs.World.{possible}
+use Rattle.sim_top.specs.Drive.{picks}
+use Rattle.sim_top.specs.declared.options.Options.{Options}
+use Rattle.tx_model.specs.Opening.{opening}
+use Rattle.tx_model.specs.Runs.{after, AreSteps, IsLegal, IsScheduled}
+use Rattle.tx_model.specs.World.{possible}
 
--- the most events of a run
-abbrev pub step_limit : ℕ
-step_limit = 1000000
+-- what the words ask of a run; JSON and scenarios that are made up are not written yet
+abbrev pub unless_more : SimWords → Option Options
+unless_more w = if w.json || is_some w.make then None else Some (record { seed = w.seed; steps = w.steps; trace = w.trace })
+
+abbrev pub asked : List (List ℕ) → Option Options
+asked words = option_and_then unless_more (line words)
 
 abbrev pub usage_text : List ℕ
 usage_text = codes "usage: txsim [--seed N] [--steps N] [--trace] [--json] [--make N [--txs N]]" ++ (10 ∷ [])
@@ -44,72 +50,68 @@ pub record Writing : Type 0 where
   pub faults_after : ℕ
 
 -- the limit was met with another event possible
-pub record MetLimit (j : Journal) : Type 0 where
-  pub many : length j.groups ≡ step_limit
+pub record MetLimit (o : Options) (j : Journal) : Type 0 where
+  pub many : length j.groups ≡ o.steps
   pub more : possible (after (opening j.scenario) j.groups) ≢ []
 
--- the journal is the machine's own, and follows the schedule
-pub record Follow (j : Journal) : Type 0 where
+-- the journal is the machine's own, and follows the schedule of the seed
+pub record Follow (o : Options) (j : Journal) : Type 0 where
   pub legal : IsLegal j
-  pub schedule : IsScheduled j
+  pub schedule : IsScheduled (picks o.seed) j
 
 -- the groups so far are the machine's own; nothing is written
-pub record OutOfMemory (j : Journal) (text : List ℕ) : Type 0 where
+pub record OutOfMemory (o : Options) (j : Journal) (text : List ℕ) : Type 0 where
   pub steps : AreSteps (opening j.scenario) j.groups
-  pub first : AreFirst (opening j.scenario) j.groups
+  pub schedule : IsScheduled (picks o.seed) j
   pub nothing : text ≡ []
 
 -- what the status of a run says of its journal
-abbrev pub Runs : Status → Journal → Type 0
-Runs status.AllEnded j = Follow j × (j.end ≡ end.AllEnded)
-Runs status.Stalled j = Follow j × (j.end ≡ end.Stalled)
-Runs status.StepLimit j = Follow j × (j.end ≡ end.StepLimit) × MetLimit j
-Runs _ j = ⊥
+abbrev pub Runs : Options → Status → Journal → Type 0
+Runs o status.AllEnded j = Follow o j × (j.end ≡ end.AllEnded)
+Runs o status.Stalled j = Follow o j × (j.end ≡ end.Stalled)
+Runs o status.StepLimit j = Follow o j × (j.end ≡ end.StepLimit) × MetLimit o j
+Runs o _ j = ⊥
 
 -- what a run of a scenario comes to: its report is to be written, unless memory ran out
-abbrev pub RunSays : Scenario → Status → Journal → List ℕ → Type 0
-RunSays s status.AllEnded j text = (j.scenario ≡ s) × Runs status.AllEnded j × (text ≡ report_of j)
-RunSays s status.Stalled j text = (j.scenario ≡ s) × Runs status.Stalled j × (text ≡ report_of j)
-RunSays s status.StepLimit j text = (j.scenario ≡ s) × Runs status.StepLimit j × (text ≡ report_of j)
-RunSays s status.Memory j text = OutOfMemory j text
-RunSays s _ j text = ⊥
-
--- a scenario of a form that is not run yet is refused as a whole
-abbrev pub unless_not_yet : Result Scenario Refusal → Result Scenario Refusal
-unless_not_yet (Err refusal) = Err refusal
-unless_not_yet (Ok scenario) = if not_yet scenario then Err (record { line = 0; cause = NotYet }) else Ok scenario
-
--- the scenario of a text that is run, or why it is not
-abbrev pub runnable : List ℕ → Result Scenario Refusal
-runnable bytes = unless_not_yet (scenario_of bytes)
+abbrev pub RunSays : Options → Scenario → Status → Journal → List ℕ → Type 0
+RunSays o s status.AllEnded j text = (j.scenario ≡ s) × Runs o status.AllEnded j × (text ≡ report_of j o.trace)
+RunSays o s status.Stalled j text = (j.scenario ≡ s) × Runs o status.Stalled j × (text ≡ report_of j o.trace)
+RunSays o s status.StepLimit j text = (j.scenario ≡ s) × Runs o status.StepLimit j × (text ≡ report_of j o.trace)
+RunSays o s status.Memory j text = OutOfMemory o j text
+RunSays o s _ j text = ⊥
 
 -- the text is refused, and this line says where and why
 pub record IsRefused (bytes text : List ℕ) : Type 0 where
   pub refusal : Refusal
-  pub refused : runnable bytes ≡ Err refusal
+  pub refused : scenario_of bytes ≡ Err refusal
   pub line : text ≡ refusal_text refusal.line refusal.cause
+
+-- no run was made, and this is to be written
+pub record Tells (said : List ℕ) (j : Journal) (text : List ℕ) : Type 0 where
+  pub no_run : j.groups ≡ []
+  pub is : text ≡ said
 
 -- what a refusal comes to
 abbrev pub RefusalSays : ℕ → Cause → Status → Journal → List ℕ → Type 0
-RefusalSays line cause status.Refused j text = (text ≡ refusal_text line cause) × (j.groups ≡ [])
-RefusalSays line cause status.Memory j text = OutOfMemory j text
+RefusalSays line cause status.Refused j text = Tells (refusal_text line cause) j text
+RefusalSays line cause status.Memory j text = Tells [] j text
 RefusalSays line cause _ j text = ⊥
 
 -- what a fixed line comes to
 abbrev pub LineSays : Status → List ℕ → Status → Journal → List ℕ → Type 0
-LineSays status.Usage said status.Usage j text = (text ≡ said) × (j.groups ≡ [])
-LineSays status.ReadFault said status.ReadFault j text = (text ≡ said) × (j.groups ≡ [])
-LineSays s said status.Memory j text = OutOfMemory j text
+LineSays status.Usage said status.Usage j text = Tells said j text
+LineSays status.ReadFault said status.ReadFault j text = Tells said j text
+LineSays s said status.Memory j text = Tells [] j text
 LineSays s said _ j text = ⊥
 
 -- what the bytes of a scenario come to
-abbrev pub Means : List ℕ → Status → Journal → List ℕ → Type 0
-Means bytes status.AllEnded j text = (runnable bytes ≡ Ok j.scenario) × Runs status.AllEnded j × (text ≡ report_of j)
-Means bytes status.Stalled j text = (runnable bytes ≡ Ok j.scenario) × Runs status.Stalled j × (text ≡ report_of j)
-Means bytes status.StepLimit j text = (runnable bytes ≡ Ok j.scenario) × Runs status.StepLimit j × (text ≡ report_of j)
-Means bytes status.Refused j text = IsRefused bytes text × (j.groups ≡ [])
-Means bytes status.Memory j text = OutOfMemory j text
-Means bytes _ j text = ⊥
+abbrev pub Means : Options → List ℕ → Status → Journal → List ℕ → Type 0
+Means o bytes status.AllEnded j text = (scenario_of bytes ≡ Ok j.scenario) × Runs o status.AllEnded j × (text ≡ report_of j o.trace)
+Means o bytes status.Stalled j text = (scenario_of bytes ≡ Ok j.scenario) × Runs o status.Stalled j × (text ≡ report_of j o.trace)
+Means o bytes status.StepLimit j text = (scenario_of bytes ≡ Ok j.scenario) × Runs o status.StepLimit j × (text ≡ report_of j o.trace)
+Means o bytes status.Refused j text = IsRefused bytes text × (j.groups ≡ [])
+Means o bytes status.Memory j text = OutOfMemory o j text
+Means o bytes _ j text = ⊥
 
 -- the words were refused before anything was read
 pub record WasUsage (r : Reading) (j : Journal) (text : List ℕ) : Type 0 where
@@ -119,10 +121,10 @@ pub record WasUsage (r : Reading) (j : Journal) (text : List ℕ) : Type 0 where
   pub said : text ≡ usage_text
 
 -- the source was read to its end, and what its bytes mean, where it tells them, is said
-pub record WasRead (r : Reading) (s : Status) (j : Journal) (text : List ℕ) : Type 0 where
+pub record WasRead (o : Options) (r : Reading) (s : Status) (j : Journal) (text : List ℕ) : Type 0 where
   pub read_out : IsAtEnd r.after
-  pub means : IfSome r.before (λ bytes. Means bytes s j text)
-  pub runs : Runs s j × (text ≡ report_of j)
+  pub means : IfSome r.before (λ bytes. Means o bytes s j text)
+  pub runs : Runs o s j × (text ≡ report_of j o.trace)
 
 -- the text was refused: for its bytes, or for their number
 pub record WasRefused (r : Reading) (j : Journal) (text : List ℕ) : Type 0 where
@@ -134,25 +136,41 @@ pub record HadFault (r : Reading) (j : Journal) (text : List ℕ) : Type 0 where
   pub no_run : j.groups ≡ []
   pub said : text ≡ read_fault_text
 
--- what a call comes to with so many words, before it is written
-abbrev pub Comes : ℕ → Reading → Status → Journal → List ℕ → Type 0
-Comes words r status.AllEnded j text = (words ≡ 0) × WasRead r status.AllEnded j text
-Comes words r status.Stalled j text = (words ≡ 0) × WasRead r status.Stalled j text
-Comes words r status.StepLimit j text = (words ≡ 0) × WasRead r status.StepLimit j text
-Comes words r status.Usage j text = (words ≢ 0) × WasUsage r j text
-Comes words r status.Refused j text = (words ≡ 0) × WasRefused r j text
-Comes words r status.ReadFault j text = (words ≡ 0) × HadFault r j text
-Comes words r status.Memory j text = OutOfMemory j text
+-- what reading and running comes to
+abbrev pub ReadSays : Options → Reading → Status → Journal → List ℕ → Type 0
+ReadSays o r status.AllEnded j text = WasRead o r status.AllEnded j text
+ReadSays o r status.Stalled j text = WasRead o r status.Stalled j text
+ReadSays o r status.StepLimit j text = WasRead o r status.StepLimit j text
+ReadSays o r status.Refused j text = WasRefused r j text
+ReadSays o r status.ReadFault j text = HadFault r j text
+ReadSays o r status.Memory j text = OutOfMemory o j text
+ReadSays o r _ j text = ⊥
+
+-- the words ask for a run, and this is what it comes to
+pub record Asked (words : List (List ℕ)) (r : Reading) (s : Status) (j : Journal) (text : List ℕ) : Type 0 where
+  pub options : Options
+  pub meant : asked words ≡ Some options
+  pub says : ReadSays options r s j text
+
+-- what a call comes to with these words, before it is written
+abbrev pub Comes : List (List ℕ) → Reading → Status → Journal → List ℕ → Type 0
+Comes words r status.Usage j text = (asked words ≡ None) × WasUsage r j text
+Comes words r status.Memory j text = Asked words r status.Memory j text ⊎ Tells [] j text
+Comes words r status.AllEnded j text = Asked words r status.AllEnded j text
+Comes words r status.Stalled j text = Asked words r status.Stalled j text
+Comes words r status.StepLimit j text = Asked words r status.StepLimit j text
+Comes words r status.Refused j text = Asked words r status.Refused j text
+Comes words r status.ReadFault j text = Asked words r status.ReadFault j text
 Comes words r status.WriteFault j text = ⊥
 
 -- the whole text was written
-pub record Written (words : ℕ) (r : Reading) (w : Writing) (s : Status) (j : Journal) : Type 0 where
+pub record Written (words : List (List ℕ)) (r : Reading) (w : Writing) (s : Status) (j : Journal) : Type 0 where
   pub text : List ℕ
   pub comes : Comes words r s j text
   pub held : w.after ≡ append_known w.before text
 
 -- a fault of the sink cut the text of another status off
-pub record CutOff (words : ℕ) (r : Reading) (w : Writing) (j : Journal) : Type 0 where
+pub record CutOff (words : List (List ℕ)) (r : Reading) (w : Writing) (j : Journal) : Type 0 where
   pub replaced : Status
   pub text : List ℕ
   pub comes : Comes words r replaced j text
@@ -160,7 +178,7 @@ pub record CutOff (words : ℕ) (r : Reading) (w : Writing) (j : Journal) : Type
   pub fault : Faulted w.faults_before w.faults_after
 
 -- what a call of the simulator ends with
-abbrev pub Ends : ℕ → Reading → Writing → Status → Journal → Type 0
+abbrev pub Ends : List (List ℕ) → Reading → Writing → Status → Journal → Type 0
 Ends words r w status.WriteFault j = CutOff words r w j
 Ends words r w status.AllEnded j = Written words r w status.AllEnded j
 Ends words r w status.Stalled j = Written words r w status.Stalled j

@@ -2,10 +2,12 @@
 #![tactic(auto)]
 
 mod drive;
+mod options;
 mod said;
 #[cfg(test)]
 mod tests;
 mod top;
 
 pub use ignite_types::Status;
+pub use options::Options;
 pub use top::{SimEnd, sim};

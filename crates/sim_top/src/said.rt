@@ -1,21 +1,26 @@
 //! What a call of the simulator comes to, before it is written.
 
-ghost use Rattle.std.specs.Prelude.{◌≡◌, [], length, IfOk};
-ghost use Rattle.report_text.specs.Report.{report_of};
+ghost use Rattle.std.specs.Prelude.{◌≡◌, ◌≢◌, [], length, map, string_bytes, IfOk, MatchBool};
+ghost use Rattle.report_text.specs.Report.{report};
+ghost use Rattle.sim_top.specs.Drive.{Follows};
+ghost use Rattle.tx_model.specs.History.{commits_of};
+ghost use Rattle.tx_model.specs.Outlooks.{outlook_of};
+ghost use Rattle.tx_model.specs.World.{possible};
 ghost use Rattle.world_core.specs.Run.{begun};
-ghost use Rattle.scen_text.specs.Causes.{Reads};
-ghost use Rattle.sim_top.specs.Sim.{Comes, LineSays, Means, RefusalSays, RunSays, Runs, read_fault_text, runnable, usage_text};
+ghost use Rattle.sim_top.specs.Sim.{Comes, LineSays, Means, ReadSays, RefusalSays, RunSays, Runs, read_fault_text, usage_text};
 
 use crate::drive::drive;
-use first_model::commits;
+use crate::options::{Options, options_of};
+use command_words::WordsFault;
 use host_io::{ReadEnd, Source, read_all};
 use ignite_types::{End, Journal, List, Mem, NoMemory, Scenario, Status};
 use report_text::report;
-use scen_text::{Cause, ReadFault, not_yet, read_scenario, refusal_line};
+use scen_text::{Cause, ReadFault, read_scenario, refusal_line};
 use std::alloc::Global;
+use tx_model::{Outlook, commits};
 use world_core::World;
 
-/// What a call with any word is told.
+/// What a call with other words is told.
 const USAGE: &str = "usage: txsim [--seed N] [--steps N] [--trace] [--json] [--make N [--txs N]]\n";
 
 /// What a call is told whose source failed.
@@ -59,20 +64,21 @@ fn out_of_memory(alloc: Global, journal: Journal) -> Said
     }
 }
 
-/// The report of a journal.
-fn report_of(alloc: Global, journal: &Journal) -> Mem<Vec<u8>>
-    ensures { IfOk result (λ text. text.items ≡ report_of journal.now) }
+/// The report of a journal, whose world shows this at its end.
+fn report_of(alloc: Global, journal: &Journal, shown: &Outlook, trace: bool) -> Mem<Vec<u8>>
+    ensures { IfOk result (λ text. text.items ≡ report journal.now shown.now (commits_of journal.now) trace) }
 {
     let entries = commits(alloc, journal)?;
-    report(alloc, journal, entries.as_slice())
+    report(alloc, journal, shown, entries.as_slice(), trace)
 }
 
 /// What the journal of a run comes to.
-fn tell(alloc: Global, journal: Journal, status: Status) -> Said
-    requires { Runs status journal }
-    ensures { RunSays journal.scenario result.status result.journal result.text.items }
+fn tell(alloc: Global, journal: Journal, shown: &Outlook, status: Status, options: Options) -> Said
+    requires runs { Runs options status journal }
+    requires shown { shown.now ≡ outlook_of journal }
+    ensures { RunSays options journal.scenario result.status result.journal result.text.items }
 {
-    match report_of(alloc, &journal) {
+    match report_of(alloc, &journal, shown, options.trace) {
         Ok(text) => Said {
             status,
             journal,
@@ -82,31 +88,47 @@ fn tell(alloc: Global, journal: Journal, status: Status) -> Said
     }
 }
 
-/// What a run comes to from its opening world on.
-fn run_world(alloc: Global, world: World) -> Said
-    requires { world ≡ begun world.scenario }
-    ensures { RunSays world.scenario result.status result.journal result.text.items }
+/// What a run comes to that was driven to its end; `more` tells whether another event is possible.
+fn tell_world(alloc: Global, world: World, more: bool, options: Options) -> Said
+    requires follows { Follows options.seed world }
+    requires ended { MatchBool more ((length world.past ≡ options.steps) × (possible world.now ≢ [])) (possible world.now ≡ []) }
+    ensures { RunSays options world.scenario result.status result.journal result.text.items }
 {
-    let mut world = world;
-    match drive(&mut world) {
-        Ok(true) => tell(alloc, world.into_journal(End::StepLimit), Status::StepLimit),
-        Ok(false) => {
-            if world.all_over() {
-                tell(alloc, world.into_journal(End::AllEnded), Status::AllEnded)
+    match world.outlook() {
+        Ok(shown) => {
+            if more {
+                let journal = world.into_journal(End::StepLimit);
+                tell(alloc, journal, &shown, Status::StepLimit, options)
+            } else if world.all_over() {
+                let journal = world.into_journal(End::AllEnded);
+                tell(alloc, journal, &shown, Status::AllEnded, options)
             } else {
-                tell(alloc, world.into_journal(End::Stalled), Status::Stalled)
+                let journal = world.into_journal(End::Stalled);
+                tell(alloc, journal, &shown, Status::Stalled, options)
             }
         }
         Err(NoMemory) => out_of_memory(alloc, world.into_journal(End::Memory)),
     }
 }
 
+/// What a run comes to from its opening world on.
+fn run_world(alloc: Global, world: World, options: Options) -> Said
+    requires { world ≡ begun world.scenario }
+    ensures { RunSays options world.scenario result.status result.journal result.text.items }
+{
+    let mut world = world;
+    match drive(&mut world, options) {
+        Ok(more) => tell_world(alloc, world, more, options),
+        Err(NoMemory) => out_of_memory(alloc, world.into_journal(End::Memory)),
+    }
+}
+
 /// What a run of a scenario comes to.
-fn run(alloc: Global, scenario: &Scenario) -> Said
-    ensures { RunSays scenario.now result.status result.journal result.text.items }
+fn run(alloc: Global, scenario: &Scenario, options: Options) -> Said
+    ensures { RunSays options scenario.now result.status result.journal result.text.items }
 {
     match World::new(alloc, scenario) {
-        Ok(world) => run_world(alloc, world),
+        Ok(world) => run_world(alloc, world, options),
         Err(NoMemory) => out_of_memory(alloc, no_run(alloc)),
     }
 }
@@ -161,43 +183,36 @@ fn read_fault(alloc: Global) -> Said
     }
 }
 
-/// The scenario of a text that is run, or why it is not.
-fn read_runnable(alloc: Global, bytes: &[u8]) -> Result<Scenario, ReadFault>
-    ensures { Reads result (runnable bytes.now) }
-{
-    let scenario = read_scenario(alloc, bytes)?;
-    if not_yet(&scenario) {
-        Err(ReadFault::Refused {
-            line: 0,
-            cause: Cause::NotYet,
-        })
-    } else {
-        Ok(scenario)
-    }
-}
-
 /// What the bytes of a scenario come to.
-fn meaning(alloc: Global, bytes: &[u8]) -> Said
-    ensures { Means bytes.now result.status result.journal result.text.items }
+fn meaning(alloc: Global, bytes: &[u8], options: Options) -> Said
+    ensures { Means options bytes.now result.status result.journal result.text.items }
 {
-    match read_runnable(alloc, bytes) {
-        Ok(scenario) => run(alloc, &scenario),
+    match read_scenario(alloc, bytes) {
+        Ok(scenario) => run(alloc, &scenario, options),
         Err(ReadFault::Refused { line, cause }) => refuse(alloc, line, cause),
         Err(ReadFault::NoMemory) => out_of_memory(alloc, no_run(alloc)),
     }
 }
 
-/// What a call comes to with these words and this source.
-pub fn say<S: Source>(alloc: Global, words: &[String], source: &mut S) -> Said
-    ensures { Comes (length words.now) (record { before = S.left source.old; after = S.left source.new; faults_before = S.faults source.old; faults_after = S.faults source.new }) result.status result.journal result.text.items }
+/// What reading a scenario from this source and running it comes to.
+fn read_said<S: Source>(alloc: Global, options: Options, source: &mut S) -> Said
+    ensures { ReadSays options (record { before = S.left source.old; after = S.left source.new; faults_before = S.faults source.old; faults_after = S.faults source.new }) result.status result.journal result.text.items }
 {
-    if !words.is_empty() {
-        return usage(alloc);
-    }
     match read_all(alloc, source) {
-        Ok(bytes) => meaning(alloc, bytes.as_slice()),
+        Ok(bytes) => meaning(alloc, bytes.as_slice(), options),
         Err(ReadEnd::TooLong) => refuse(alloc, 0, Cause::TooLong),
         Err(ReadEnd::Fault) => read_fault(alloc),
         Err(ReadEnd::NoMemory) => out_of_memory(alloc, no_run(alloc)),
+    }
+}
+
+/// What a call comes to with these words and this source.
+pub fn say<S: Source>(alloc: Global, words: &[String], source: &mut S) -> Said
+    ensures { Comes (map string_bytes words.now) (record { before = S.left source.old; after = S.left source.new; faults_before = S.faults source.old; faults_after = S.faults source.new }) result.status result.journal result.text.items }
+{
+    match options_of(alloc, words) {
+        Ok(options) => read_said(alloc, options, source),
+        Err(WordsFault::Usage) => usage(alloc),
+        Err(WordsFault::NoMemory) => out_of_memory(alloc, no_run(alloc)),
     }
 }

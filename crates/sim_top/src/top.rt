@@ -1,6 +1,6 @@
 //! The top call.
 
-ghost use Rattle.std.specs.Prelude.{◌≡◌, length};
+ghost use Rattle.std.specs.Prelude.{map, string_bytes};
 ghost use Rattle.sim_top.specs.Sim.{Ends};
 
 use crate::said::{Said, say};
@@ -15,15 +15,15 @@ pub struct SimEnd {
     pub journal: Journal,
 }
 
-/// Reads a scenario from the source, runs it by always taking the first possible event, and writes the report to the
-/// sink. Any word is answered by the usage line.
+/// Reads a scenario from the source, runs it in the schedule that the seed among the words picks, and writes the report to the
+/// sink. Words that are no command line are answered by the usage line.
 pub fn sim<S: Source, K: Sink>(
     alloc: Global,
     words: &[String],
     source: &mut S,
     sink: &mut K,
 ) -> SimEnd
-    ensures { Ends (length words.now)
+    ensures { Ends (map string_bytes words.now)
         (record { before = S.left source.old; after = S.left source.new; faults_before = S.faults source.old; faults_after = S.faults source.new })
         (record { before = K.held sink.old; after = K.held sink.new; faults_before = K.faults sink.old; faults_after = K.faults sink.new })
         result.status result.journal }

@@ -1,8 +1,5 @@
-pub mod Applied
 pub mod History
-pub mod Noted
 pub mod Opening
+pub mod Outlooks
 pub mod Runs
-pub mod Versions
-pub mod Waits
 pub mod World

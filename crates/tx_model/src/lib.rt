@@ -2,7 +2,9 @@
 #![tactic(auto)]
 
 mod history;
+mod outlook;
 mod walk;
 
 pub use history::{BadRead, CommitEntry, commits, footprint, serial};
+pub use outlook::{Outlook, Standing};
 pub use walk::Walk;

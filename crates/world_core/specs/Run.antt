@@ -1,10 +1,12 @@
 -- A run in work: its scenario, the world as it is now, and the groups so far.
-use Rattle.std.specs.Prelude.{◌≡◌, List, [], ◌∷◌, ◌++◌}
+use Rattle.std.specs.Prelude.{◌≡◌, List, [], ◌∷◌, ◌++◌, Option, Some, None}
+use Rattle.base_words.specs.Directory.{event_at}
 use Rattle.ignite_types.specs.declared.journal.Event.{Event}
 use Rattle.ignite_types.specs.declared.journal.Group.{Group}
+use Rattle.ignite_types.specs.declared.journal.TopoEvent.{TopoEvent}
 use Rattle.ignite_types.specs.declared.scenario.Scenario.{Scenario}
-use Rattle.first_model.specs.Opening.{opening}
-use Rattle.first_model.specs.World.{World, outcome}
+use Rattle.tx_model.specs.Opening.{opening}
+use Rattle.tx_model.specs.World.{Part, World, outcome}
 
 pub record Run : Type 0 where
   pub scenario : Scenario
@@ -24,3 +26,8 @@ stepped r e =
 pub record KeepsPast (old new : Run) : Type 0 where
   pub scenario : new.scenario ≡ old.scenario
   pub past : new.past ≡ old.past
+
+-- the topology event that a node has to read next
+abbrev pub next_for : World → Option Part → Option TopoEvent
+next_for w None = None
+next_for w (Some p) = event_at w.directory p.node.read

@@ -1,37 +1,61 @@
 //! The world in which a run begins.
 
-ghost use Rattle.std.specs.Prelude.{◌≡◌, [], IfOk, map};
-ghost use Rattle.first_model.specs.Opening.{homes_from, ids_from, opening_inboxes, opening_node};
+ghost use Rattle.std.specs.Prelude.{◌≡◌, [], IfOk};
+ghost use Rattle.tx_model.specs.Opening.{declared_nodes, homes_from, ids_of, opening_inboxes, opening_part, opening_parts};
 ghost use Rattle.world_core.specs.Run.{begun};
 
+use crate::parts::Part;
 use crate::world::World;
-use first_node::Node;
-use ignite_types::{List, Mem, Member, NodeId, Scenario, Session};
+use discovery_order::{Directory, node_set};
+use ignite_types::{List, Mem, Member, NodeId, PartMap, Scenario, Session, Step};
 use link_memory::Inbox;
+use node_core::{new_node, opening_map_of};
+use node_state::Life;
+use node_steps::is_member;
 use ordered_set::Set;
 use ordered_table::Table;
 use plain_copies::Duplicate;
 use std::alloc::Global;
 
-/// The numbers of these nodes, ascending.
-fn ids_of(alloc: Global, members: &[Member]) -> Mem<Set<NodeId>>
-    ensures { IfOk result (λ ids. ids ≡ ids_from [] members.now) }
+/// The declared nodes: those of node lines, then those of join steps.
+fn declared_nodes(alloc: Global, scenario: &Scenario) -> Mem<List<Member>>
+    ensures { IfOk result (λ members. members ≡ declared_nodes scenario.now) }
 {
-    let mut ids = Set::new(alloc);
-    for member in members {
-        ids.insert(member.node)?;
+    let mut members = List::from_slice(alloc, scenario.nodes.as_slice())?;
+    for step in scenario.plan.as_slice() {
+        match step.step {
+            Step::Join(member) => members.push(member)?,
+            _ => {}
+        }
     }
-    Ok(ids)
+    Ok(members)
 }
 
-fn nodes_of(alloc: Global, scenario: &Scenario, ids: &[NodeId]) -> Mem<Vec<Node>>
-    ensures { IfOk result (λ nodes. nodes.items ≡ map (opening_node scenario.now) ids.now) }
+/// The numbers of the declared nodes, ascending.
+fn ids_of(alloc: Global, scenario: &Scenario) -> Mem<Set<NodeId>>
+    ensures { IfOk result (λ ids. ids ≡ ids_of scenario.now) }
 {
-    let mut nodes = Vec::new(alloc);
+    let members = declared_nodes(alloc, scenario)?;
+    node_set(alloc, members.as_slice())
+}
+
+fn part_of(alloc: Global, scenario: &Scenario, map: &PartMap, id: NodeId) -> Mem<Part>
+    ensures { IfOk result (λ part. part ≡ opening_part scenario.now map.now id) }
+{
+    let initial = is_member(scenario.nodes.as_slice(), id);
+    let node = new_node(alloc, scenario, map, id, initial)?;
+    let life = if initial { Life::Alive } else { Life::Absent };
+    Ok(Part { node, life })
+}
+
+fn parts_of(alloc: Global, scenario: &Scenario, map: &PartMap, ids: &[NodeId]) -> Mem<Vec<Part>>
+    ensures { IfOk result (λ parts. parts.items ≡ opening_parts scenario.now map.now ids.now) }
+{
+    let mut parts = Vec::new(alloc);
     for id in ids {
-        nodes.push(Node::new(alloc, scenario, *id)?)?;
+        parts.push(part_of(alloc, scenario, map, *id)?)?;
     }
-    Ok(nodes)
+    Ok(parts)
 }
 
 fn inboxes_of(alloc: Global, senders: &[NodeId], ids: &[NodeId]) -> Mem<Vec<Inbox>>
@@ -62,11 +86,13 @@ impl World {
     pub fn new(alloc: Global, scenario: &Scenario) -> Mem<World>
         ensures { IfOk result (λ world. world ≡ begun scenario.now) }
     {
-        let ids = ids_of(alloc, scenario.nodes.as_slice())?;
+        let ids = ids_of(alloc, scenario)?;
+        let map = opening_map_of(alloc, scenario)?;
         Ok(World {
             alloc,
             scenario: scenario.copy(alloc)?,
-            nodes: nodes_of(alloc, scenario, ids.as_slice())?,
+            directory: Directory::new(alloc, scenario)?,
+            parts: parts_of(alloc, scenario, &map, ids.as_slice())?,
             inboxes: inboxes_of(alloc, ids.as_slice(), ids.as_slice())?,
             homes: homes_of(alloc, scenario.sessions.as_slice())?,
             broken: false,

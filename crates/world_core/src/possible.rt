@@ -1,87 +1,21 @@
-//! Which events are possible.
+//! Which events are possible, in their order.
 
 ghost use Rattle.std.specs.Prelude.{◌≡◌, ◌++◌, map, OnOk, IfOk};
 ghost use Rattle.std.specs.Option.{option_copied};
 ghost use Rattle.ignite_types.specs.declared.journal.Event.TheVariants as event;
-ghost use Rattle.first_model.specs.World.{all_over, can_be, enabled, home_of, ids, node_at, possible, possible_acts, possible_of, session_over, sessions};
+ghost use Rattle.tx_model.specs.World.{enabled, home_at, ids, is_quiet, node_events, open_txs, plan_events, possible, possible_acts, possible_of, sessions, tick_events, tx_at};
 
+use crate::showing::can_take;
 use crate::world::World;
-use first_node::Node;
-use ignite_types::{Event, List, Mem, NodeId};
+use ignite_types::{Event, List, Mem, NodeId, TxId};
 
 impl World {
-    /// The node at this place.
-    fn node_at(&self, place: Option<usize>) -> Option<&Node>
-        ensures { option_copied result ≡ node_at self.now.now place }
-    {
-        match place {
-            Some(place) => self.nodes.get(place),
-            None => None,
-        }
-    }
-
-    fn can_answer(&self, session: u32) -> bool
-        ensures { result ≡ can_be self.now.now (event.Answer session) }
-    {
-        match self.node_at(self.home_of(session)) {
-            Some(node) => node.may_answer(session),
-            None => false,
-        }
-    }
-
-    fn can_call(&self, session: u32) -> bool
-        ensures { result ≡ can_be self.now.now (event.Call session) }
-    {
-        match self.node_at(self.home_of(session)) {
-            Some(node) => node.may_call(session),
-            None => false,
-        }
-    }
-
-    fn can_send(&self, id: NodeId) -> bool
-        ensures { result ≡ can_be self.now.now (event.Send id) }
-    {
-        match self.node_at(self.place_of(id)) {
-            Some(node) => node.may_send(),
-            None => false,
-        }
-    }
-
-    fn can_take(&self, id: NodeId, from: NodeId) -> bool
-        ensures { result ≡ can_be self.now.now (event.Act id from) }
-    {
-        let Some(place) = self.place_of(id) else {
-            return false;
-        };
-        let Some(inbox) = self.inboxes.get(place) else {
-            return false;
-        };
-        !inbox.is_held(from) && inbox.oldest(from).is_some()
-    }
-
-    /// Whether the event is possible now.
-    pub fn enabled(&self, event: &Event) -> bool
-        ensures { result ≡ enabled self.now.now event.now }
-    {
-        if self.broken {
-            return false;
-        }
-        match event {
-            Event::Answer(session) => self.can_answer(*session),
-            Event::Act(id, from) => self.can_take(*id, *from),
-            Event::Send(id) => self.can_send(*id),
-            Event::Call(session) => self.can_call(*session),
-            Event::Memory(id) => self.place_of(*id).is_some(),
-            _ => false,
-        }
-    }
-
     fn add_answers(&self, events: &mut List<Event>) -> Mem<()>
         ensures { OnOk result (events.new ≡ events.old ++ possible_of self.now.now (map event.Answer (sessions self.now.now))) }
     {
         for (session, _) in self.homes.as_slice() {
             let event = Event::Answer(*session);
-            if self.enabled(&event) {
+            if self.can_be(&event) {
                 events.push(event)?;
             }
         }
@@ -93,7 +27,7 @@ impl World {
     {
         for (session, _) in self.homes.as_slice() {
             let event = Event::Call(*session);
-            if self.enabled(&event) {
+            if self.can_be(&event) {
                 events.push(event)?;
             }
         }
@@ -103,23 +37,75 @@ impl World {
     fn add_sends(&self, events: &mut List<Event>) -> Mem<()>
         ensures { OnOk result (events.new ≡ events.old ++ possible_of self.now.now (map event.Send (ids self.now.now))) }
     {
-        for node in self.nodes.as_slice() {
-            let event = Event::Send(node.me());
-            if self.enabled(&event) {
+        for part in self.parts.as_slice() {
+            let event = Event::Send(part.node.state.me);
+            if self.can_be(&event) {
                 events.push(event)?;
             }
         }
         Ok(())
     }
 
-    /// The messages that one node may take.
+    fn add_sees(&self, events: &mut List<Event>) -> Mem<()>
+        ensures { OnOk result (events.new ≡ events.old ++ possible_of self.now.now (map event.See (ids self.now.now))) }
+    {
+        for part in self.parts.as_slice() {
+            let event = Event::See(part.node.state.me);
+            if self.can_be(&event) {
+                events.push(event)?;
+            }
+        }
+        Ok(())
+    }
+
+    fn add_switches(&self, events: &mut List<Event>) -> Mem<()>
+        ensures { OnOk result (events.new ≡ events.old ++ possible_of self.now.now (map event.Minor (ids self.now.now))) }
+    {
+        for part in self.parts.as_slice() {
+            let event = Event::Minor(part.node.state.me);
+            if self.can_be(&event) {
+                events.push(event)?;
+            }
+        }
+        Ok(())
+    }
+
+    /// The session's transaction at its node.
+    fn tx_at(&self, session: u32) -> Option<TxId>
+        ensures { result ≡ tx_at session (home_at self.now.now session) }
+    {
+        match self.home_at(session) {
+            Some(node) => match node.desk(session) {
+                Some(desk) => desk.tx,
+                None => None,
+            },
+            None => None,
+        }
+    }
+
+    fn add_expiries(&self, events: &mut List<Event>) -> Mem<()>
+        ensures { OnOk result (events.new ≡ events.old ++ possible_of self.now.now (map event.Expire (open_txs self.now.now))) }
+    {
+        for (session, _) in self.homes.as_slice() {
+            if let Some(tx) = self.tx_at(*session) {
+                let event = Event::Expire(tx);
+                if self.can_be(&event) {
+                    events.push(event)?;
+                }
+            }
+        }
+        Ok(())
+    }
+
+    /// The messages that one node can take.
     fn add_acts_of(&self, events: &mut List<Event>, id: NodeId) -> Mem<()>
         ensures { OnOk result (events.new ≡ events.old ++ possible_of self.now.now (map (event.Act id) (ids self.now.now))) }
     {
-        for node in self.nodes.as_slice() {
-            let event = Event::Act(id, node.me());
-            if self.enabled(&event) {
-                events.push(event)?;
+        let inbox = self.inbox_of(id);
+        for part in self.parts.as_slice() {
+            let from = part.node.state.me;
+            if can_take(from, inbox) {
+                events.push(Event::Act(id, from))?;
             }
         }
         Ok(())
@@ -128,42 +114,82 @@ impl World {
     fn add_acts(&self, events: &mut List<Event>) -> Mem<()>
         ensures { OnOk result (events.new ≡ events.old ++ possible_acts self.now.now (ids self.now.now) (ids self.now.now)) }
     {
-        for node in self.nodes.as_slice() {
-            self.add_acts_of(events, node.me())?;
+        for part in self.parts.as_slice() {
+            self.add_acts_of(events, part.id())?;
         }
         Ok(())
+    }
+
+    /// The possible events at nodes.
+    fn node_events(&self) -> Mem<List<Event>>
+        ensures { IfOk result (λ events. events ≡ node_events self.now.now) }
+    {
+        let mut events = List::new(self.alloc);
+        self.add_answers(&mut events)?;
+        self.add_acts(&mut events)?;
+        self.add_sends(&mut events)?;
+        self.add_sees(&mut events)?;
+        self.add_expiries(&mut events)?;
+        self.add_switches(&mut events)?;
+        self.add_calls(&mut events)?;
+        Ok(events)
+    }
+
+    fn add_plan(&self, events: &mut List<Event>) -> Mem<()>
+        ensures { OnOk result (events.new ≡ events.old ++ plan_events self.now.now) }
+    {
+        if self.can_be(&Event::Plan) {
+            events.push(Event::Plan)?;
+        }
+        Ok(())
+    }
+
+    fn add_tick(&self, events: &mut List<Event>, quiet: bool) -> Mem<()>
+        ensures { OnOk result (events.new ≡ events.old ++ tick_events self.now.now quiet) }
+    {
+        if quiet {
+            if self.can_be(&Event::Tick) {
+                events.push(Event::Tick)?;
+            }
+        }
+        Ok(())
+    }
+
+    /// Whether nothing is possible at nodes.
+    fn is_quiet(&self) -> Mem<bool>
+        ensures { IfOk result (λ quiet. quiet ≡ is_quiet self.now.now) }
+    {
+        let events = self.node_events()?;
+        Ok(events.len() == 0)
+    }
+
+    /// Whether the event is possible now. The clock moves only where all is quiet.
+    pub fn enabled(&self, event: &Event) -> Mem<bool>
+        ensures { IfOk result (λ yes. yes ≡ enabled self.now.now event.now) }
+    {
+        if self.broken {
+            return Ok(false);
+        }
+        if !self.can_be(event) {
+            return Ok(false);
+        }
+        match event {
+            Event::Tick => self.is_quiet(),
+            _ => Ok(true),
+        }
     }
 
     /// The possible events in their order, want of memory left out.
     pub fn possible(&self) -> Mem<List<Event>>
         ensures { IfOk result (λ events. events ≡ possible self.now.now) }
     {
-        let mut events = List::new(self.alloc);
-        self.add_answers(&mut events)?;
-        self.add_acts(&mut events)?;
-        self.add_sends(&mut events)?;
-        self.add_calls(&mut events)?;
+        if self.broken {
+            return Ok(List::new(self.alloc));
+        }
+        let mut events = self.node_events()?;
+        let quiet = events.len() == 0;
+        self.add_plan(&mut events)?;
+        self.add_tick(&mut events, quiet)?;
         Ok(events)
-    }
-
-    fn session_over(&self, session: u32) -> bool
-        ensures { result ≡ session_over (node_at self.now.now (home_of self.now.now session)) session }
-    {
-        match self.node_at(self.home_of(session)) {
-            Some(node) => node.session_over(session),
-            None => true,
-        }
-    }
-
-    /// Whether every session is at the end of its script.
-    pub fn all_over(&self) -> bool
-        ensures { result ≡ all_over self.now.now }
-    {
-        for (session, _) in self.homes.as_slice() {
-            if !self.session_over(*session) {
-                return false;
-            }
-        }
-        true
     }
 }

@@ -1,13 +1,15 @@
-//! The world and what it shows.
+//! The world and where its parts are.
 
 ghost use Rattle.std.specs.Prelude.{◌≡◌, length, position};
+ghost use Rattle.std.specs.Option.{option_copied};
 ghost use Rattle.ignite_types.specs.Names.{same_node};
-ghost use Rattle.first_model.specs.World.{home_of, place_of};
-ghost use Rattle.first_state.specs.declared.node.NodeState.{NodeState};
+ghost use Rattle.tx_model.specs.World.{Part as PartValue, home_at, inbox_on, live_home, live_place, node_at, part_on, place_of};
 
-use first_node::Node;
+use crate::parts::{Part, is_alive};
+use discovery_order::Directory;
 use ignite_types::{End, Group, Journal, List, NodeId, Scenario};
 use link_memory::Inbox;
+use node_core::Node;
 use ordered_table::Table;
 use std::alloc::Global;
 use std::marker::Model;
@@ -17,7 +19,8 @@ use std::marker::Model;
 pub struct World {
     pub(crate) alloc: Global,
     pub(crate) scenario: Scenario,
-    pub(crate) nodes: Vec<Node>,
+    pub(crate) directory: Directory,
+    pub(crate) parts: Vec<Part>,
     pub(crate) inboxes: Vec<Inbox>,
     pub(crate) homes: Table<u32, NodeId>,
     pub(crate) broken: bool,
@@ -31,16 +34,16 @@ impl Model for World {
 
     ghost view = { λ w. record {
       scenario = w.scenario;
-      now = record { nodes = w.nodes.items; inboxes = w.inboxes.items; homes = w.homes; broken = w.broken };
+      now = record { directory = w.directory; parts = w.parts.items; inboxes = w.inboxes.items; homes = w.homes; broken = w.broken };
       past = w.groups;
     } };
 }
 
 /// The place of the node with this number.
-fn place_of(nodes: &[Node], id: NodeId) -> Option<usize>
-    ensures { result ≡ position (λ (n : NodeState). same_node n.me id) nodes.now }
+fn place_of(parts: &[Part], id: NodeId) -> Option<usize>
+    ensures { result ≡ position (λ (p : PartValue). same_node p.node.me id) parts.now }
 {
-    nodes.iter().position(|node| node.me() == id)
+    parts.iter().position(|part| part.node.state.me == id)
 }
 
 impl World {
@@ -48,15 +51,66 @@ impl World {
     pub(crate) fn place_of(&self, id: NodeId) -> Option<usize>
         ensures { result ≡ place_of self.now.now id }
     {
-        place_of(self.nodes.as_slice(), id)
+        place_of(self.parts.as_slice(), id)
     }
 
-    /// The place of the session's node.
-    pub(crate) fn home_of(&self, session: u32) -> Option<usize>
-        ensures { result ≡ home_of self.now.now session }
+    /// The node at this place.
+    pub(crate) fn part_on(&self, place: Option<usize>) -> Option<&Part>
+        ensures { option_copied result ≡ part_on self.now.now place }
+    {
+        match place {
+            Some(place) => self.parts.get(place),
+            None => None,
+        }
+    }
+
+    /// The inbox at this place.
+    pub(crate) fn inbox_on(&self, place: Option<usize>) -> Option<&Inbox>
+        ensures { option_copied result ≡ inbox_on self.now.now place }
+    {
+        match place {
+            Some(place) => self.inboxes.get(place),
+            None => None,
+        }
+    }
+
+    /// The place of the node with this number, where it is alive.
+    pub(crate) fn live_place(&self, id: NodeId) -> Option<usize>
+        ensures { result ≡ live_place self.now.now id }
+    {
+        let place = self.place_of(id);
+        match self.part_on(place) {
+            Some(part) => { if is_alive(part.life) { place } else { None } }
+            None => None,
+        }
+    }
+
+    /// The place of the session's node, where it is alive.
+    pub(crate) fn live_home(&self, session: u32) -> Option<usize>
+        ensures { result ≡ live_home self.now.now session }
     {
         match self.homes.get(&session) {
-            Some(id) => self.place_of(*id),
+            Some(id) => self.live_place(*id),
+            None => None,
+        }
+    }
+
+    /// The node with this number, where it is alive.
+    pub(crate) fn node_at(&self, id: NodeId) -> Option<&Node>
+        ensures { option_copied result ≡ node_at self.now.now id }
+    {
+        match self.part_on(self.live_place(id)) {
+            Some(part) => Some(&part.node),
+            None => None,
+        }
+    }
+
+    /// The session's node, where it is alive.
+    pub(crate) fn home_at(&self, session: u32) -> Option<&Node>
+        ensures { option_copied result ≡ home_at self.now.now session }
+    {
+        match self.part_on(self.live_home(session)) {
+            Some(part) => Some(&part.node),
             None => None,
         }
     }
@@ -75,7 +129,8 @@ impl World {
         let World {
             alloc: _,
             scenario,
-            nodes: _,
+            directory: _,
+            parts: _,
             inboxes: _,
             homes: _,
             broken: _,

@@ -1,5 +1,5 @@
 use Rattle.std.proofs.Common.{◌≡◌, [], drop}
-use Rattle.first_model.specs.History.{map_after}
+use Rattle.tx_model.specs.History.{map_after}
 use Rattle.report_text.proofs.history.map_after.Given as goal
 
 abbrev pub invariant-loop-entry : goal.invariant-loop-entry

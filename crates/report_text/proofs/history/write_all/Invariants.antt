@@ -1,5 +1,5 @@
 use Rattle.std.proofs.Common.{◌≡◌, drop}
-use Rattle.first_model.specs.History.{written}
+use Rattle.tx_model.specs.History.{written}
 use Rattle.report_text.proofs.history.write_all.Given as goal
 
 abbrev pub invariant-loop-write : goal.invariant-loop-write

@@ -1,5 +1,5 @@
 use Rattle.std.proofs.Common.{◌≡◌, [], drop}
-use Rattle.first_model.specs.Opening.{homes_from}
+use Rattle.tx_model.specs.Opening.{homes_from}
 use Rattle.world_core.proofs.opening.homes_of.Given as goal
 
 abbrev pub invariant-loop-session : goal.invariant-loop-session

@@ -1,5 +1,5 @@
 use Rattle.std.proofs.Common.{◌≡◌, ◌++◌, drop}
-use Rattle.first_model.specs.Opening.{opening_inboxes}
+use Rattle.tx_model.specs.Opening.{opening_inboxes}
 use Rattle.world_core.proofs.opening.inboxes_of.Given as goal
 
 abbrev pub invariant-loop-id : goal.invariant-loop-id

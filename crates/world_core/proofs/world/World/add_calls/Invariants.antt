@@ -1,7 +1,7 @@
 use Rattle.std.proofs.Common.{◌≡◌, ◌++◌, drop, map, ℕ}
 use Rattle.ignite_types.specs.declared.journal.Event.TheVariants as event
 use Rattle.ignite_types.specs.declared.names.NodeId.{NodeId}
-use Rattle.first_model.specs.World.{possible_of, sessions}
+use Rattle.tx_model.specs.World.{possible_of}
 use Rattle.world_core.proofs.world.World.add_calls.Given as goal
 
 abbrev pub invariant-loop-session : goal.invariant-loop-session

@@ -1,10 +1,9 @@
 use Rattle.std.proofs.Common.{◌≡◌, ◌++◌, drop, map}
 use Rattle.ignite_types.specs.declared.journal.Event.TheVariants as event
-use Rattle.first_state.specs.declared.node.NodeState.{NodeState}
-use Rattle.first_model.specs.World.{possible_of}
+use Rattle.tx_model.specs.World.{Part, possible_of}
 use Rattle.world_core.proofs.world.World.add_sends.Given as goal
 
-abbrev pub invariant-loop-node : goal.invariant-loop-node
-invariant-loop-node l =
-    l.events ++ possible_of l.self.now (map event.Send (map (λ (n : NodeState). n.me) (drop l.node-index l.node-items)))
-    ≡ l.initial.events ++ possible_of l.self.now (map event.Send (map (λ (n : NodeState). n.me) l.node-items))
+abbrev pub invariant-loop-part : goal.invariant-loop-part
+invariant-loop-part l =
+    l.events ++ possible_of l.self.now (map event.Send (map (λ (p : Part). p.node.me) (drop l.part-index l.part-items)))
+    ≡ l.initial.events ++ possible_of l.self.now (map event.Send (map (λ (p : Part). p.node.me) l.part-items))

@@ -1,6 +1,0 @@
-use Rattle.std.proofs.Common.{[], drop, ◌≡◌}
-use Rattle.base_words.specs.Directory.{node_set}
-use Rattle.discovery_order.proofs.directory.node_set.Given as goal
-
-abbrev pub invariant-loop-member : goal.invariant-loop-member
-invariant-loop-member l = node_set l.nodes (drop l.member-index l.members) ≡ node_set [] l.members

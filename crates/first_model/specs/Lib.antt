@@ -1,4 +1,0 @@
-pub mod History
-pub mod Opening
-pub mod Runs
-pub mod World

@@ -1,6 +1,0 @@
-use Rattle.std.proofs.Common.{◌≡◌, ◌++◌, drop}
-use Rattle.first_model.specs.Opening.{empty_copies}
-use Rattle.first_node.proofs.node.empty_copies.Given as goal
-
-abbrev pub invariant-loop-row : goal.invariant-loop-row
-invariant-loop-row l = l.copies ++ empty_copies (drop l._row-index l.rows) ≡ empty_copies l.rows

@@ -1,0 +1,69 @@
+-- A committed transaction is applied whole: at all live holders before it is told, and before its locks are free.
+use Rattle.std.specs.List.{list_all, list_any}
+use Rattle.std.specs.Option.{option_and_then}
+use Rattle.std.specs.Prelude.{Bool, None, Option, Some, nat_eq, not, true, ℕ, ◌&&◌, ◌||◌}
+use Rattle.base_words.specs.Orders.{is_node}
+use Rattle.ignite_types.specs.Names.{same_key}
+use Rattle.ignite_types.specs.Placement.{part_of}
+use Rattle.ignite_types.specs.declared.answer.Answer.{Answer}
+use Rattle.ignite_types.specs.declared.journal.Journal.{Journal}
+use Rattle.ignite_types.specs.declared.journal.Rec.{Rec}
+use Rattle.ignite_types.specs.declared.list.List.{List}
+use Rattle.ignite_types.specs.declared.names.NodeId.{NodeId}
+use Rattle.ignite_types.specs.declared.names.TxId.{TxId}
+use Rattle.ignite_types.specs.declared.placement.PartMap.{PartMap}
+use Rattle.ignite_types.specs.declared.scenario.Command.{Command}
+use Rattle.ignite_types.specs.declared.text.Key.{Key}
+use Rattle.tx_model.specs.History.{footprint, same_value}
+use Rattle.journal_statements.specs.Noted.{Noted, all_applied, each_record, holders_of_key, is_committed_before, map_of_version, maps_installed, noted, version_of_tx}
+use Rattle.journal_statements.specs.Told.{closing, is_told_committed}
+use Rattle.journal_statements.specs.Versions.{writes_applied}
+use Rattle.journal_statements.specs.Walks.{each_answer}
+use Rattle.tx_model.specs.declared.walk.Walk.{Walk}
+use Rattle.ignite_types.specs.declared.journal.Rec.TheVariants as note
+
+abbrev pub is_write : Key → Option (List ℕ) → Key × Option (List ℕ) → Bool
+is_write key new w = same_key w.0 key && same_value w.1 new
+
+-- an apply stands behind its commit decision, at a holder of its key, and carries the written value
+abbrev pub apply_fits : Journal → List PartMap → List Noted → Option NodeId → TxId → Key → Option (List ℕ) → Bool
+apply_fits j maps before who tx key new = is_committed_before before tx
+    && list_any (λ (holder : NodeId). is_node holder who) (holders_of_key maps before tx key)
+    && list_any (is_write key new) (footprint j.groups tx).writes
+
+-- the part of a key by the map of a transaction's version
+abbrev pub part_in : Key → Option PartMap → ℕ
+part_in key None = 0
+part_in key (Some m) = part_of m.parts key
+
+abbrev pub part_for : List PartMap → List Noted → TxId → Key → ℕ
+part_for maps before tx key = part_in key (option_and_then (map_of_version maps) (version_of_tx before tx))
+
+-- a write in the dropped key's partition is applied at each live holder of that key
+abbrev pub drop_fits : List PartMap → List Noted → List Noted → TxId → Key → Key × Option (List ℕ) → Bool
+drop_fits maps recs before tx key w = not (nat_eq (part_for maps recs tx w.0) (part_for maps recs tx key))
+    || all_applied before tx w.0 (holders_of_key maps recs tx key)
+
+-- `recs` are all records of the journal, so that a drop is looked at too where the commit decision stands behind it
+abbrev pub synced_at : Journal → List PartMap → List Noted → List Noted → Option NodeId → Rec → Bool
+synced_at j maps recs before who (note.Apply tx top primary key new ver) = apply_fits j maps before who tx key new
+synced_at j maps recs before who (note.Drop tx key) = not (is_committed_before recs tx)
+    || list_all (drop_fits maps recs before tx key) (footprint j.groups tx).writes
+synced_at j maps recs before who r = true
+
+-- applies are those of committed writes at their holders, and a lock of a committed transaction is free only after them
+abbrev pub applied_whole : Journal → Bool
+applied_whole j = let recs = noted j.scenario j.groups in let maps = maps_installed j.scenario recs in
+    each_record (λ (before : List Noted) (n : Noted). synced_at j maps recs before n.node n.rec) recs
+
+abbrev pub told_of_applied : Journal → List PartMap → TxId → List Noted → Walk → Option Command → Answer → Bool
+told_of_applied j maps tx before w None a = true
+told_of_applied j maps tx before w (Some c) a = not (is_told_committed (closing w c a)) || writes_applied j maps before tx
+
+-- a transaction is told committed only when its writes are applied at each live holder
+abbrev pub told_when_applied : Journal → Bool
+told_when_applied j = let maps = maps_installed j.scenario (noted j.scenario j.groups) in each_answer (told_of_applied j maps) j
+
+-- what is committed is applied whole, before it is told and before its locks are free
+abbrev pub full_sync : Journal → Bool
+full_sync j = applied_whole j && told_when_applied j

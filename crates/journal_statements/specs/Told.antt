@@ -1,0 +1,75 @@
+-- What a session is told agrees with the history: each access is answered by the value before it, and who is told committed is
+-- committed.
+use Rattle.std.specs.Cmp.Lexicographic.{pointwise}
+use Rattle.std.specs.Prelude.{Bool, Err, None, Ok, Option, Result, Some, false, if◌then◌else◌, nat_eq, not, true, ℕ, ◌&&◌, ◌||◌}
+use Rattle.act_rows.specs.Accesses.{answer_of}
+use Rattle.base_words.specs.Numbers.{added}
+use Rattle.ignite_types.specs.declared.answer.Answer.{Answer}
+use Rattle.ignite_types.specs.declared.journal.Journal.{Journal}
+use Rattle.ignite_types.specs.declared.list.List.{List}
+use Rattle.ignite_types.specs.declared.names.TxId.{TxId}
+use Rattle.ignite_types.specs.declared.scenario.Command.{Command}
+use Rattle.tx_model.specs.History.{is_access, is_bare, is_done, known_value}
+use Rattle.journal_statements.specs.Noted.{Noted, is_committed_before, noted}
+use Rattle.journal_statements.specs.Walks.{each_answer}
+use Rattle.tx_model.specs.declared.walk.Walk.{Walk}
+use Rattle.ignite_types.specs.declared.answer.Answer.TheVariants as answer
+use Rattle.ignite_types.specs.declared.scenario.Command.TheVariants as command
+
+abbrev pub sum_answer : Result (List ℕ) Answer → Answer
+sum_answer (Ok value) = answer.Found value
+sum_answer (Err why) = why
+
+-- the answer of an access by the value before it
+abbrev pub access_answer : Walk → Command → Answer
+access_answer w (command.Get key) = answer_of (known_value w key)
+access_answer w (command.Add key amount) = sum_answer (added (known_value w key) amount)
+access_answer w c = answer.Done
+
+-- of answers by which an access is done
+abbrev pub same_done : Answer → Answer → Bool
+same_done answer.Done answer.Done = true
+same_done (answer.Found a) (answer.Found b) = pointwise nat_eq a b
+same_done answer.Absent answer.Absent = true
+same_done answer.NotNumber answer.NotNumber = true
+same_done answer.Overflow answer.Overflow = true
+same_done _ _ = false
+
+abbrev pub access_fits : Walk → Command → Answer → Bool
+access_fits w c a = not (is_access c && is_done a) || same_done a (access_answer w c)
+
+-- Closing answers: whether a transaction is told committed by one, or anything else; none where it goes on.
+
+abbrev pub block_closing : Answer → Option Bool
+block_closing answer.Committed = Some true
+block_closing answer.RolledBack = Some false
+block_closing (answer.Failed why) = Some false
+block_closing _ = None
+
+-- of a bare access each answer is a closing one
+abbrev pub bare_closing : Answer → Option Bool
+bare_closing answer.Done = Some true
+bare_closing (answer.Found value) = Some true
+bare_closing answer.Absent = Some true
+bare_closing _ = Some false
+
+abbrev pub closing : Walk → Command → Answer → Option Bool
+closing w c a = if w.block then block_closing a else (if is_bare w c then bare_closing a else None)
+
+abbrev pub is_told_committed : Option Bool → Bool
+is_told_committed None = false
+is_told_committed (Some committed) = committed
+
+-- the commit decision stands before that answer; after any other closing answer there is none in the whole journal
+abbrev pub closing_fits : Bool → Walk → Option Bool → Bool
+closing_fits ever w None = true
+closing_fits ever w (Some true) = w.committed
+closing_fits ever w (Some false) = not ever
+
+abbrev pub told_of_call : List Noted → TxId → List Noted → Walk → Option Command → Answer → Bool
+told_of_call recs tx before w None a = true
+told_of_call recs tx before w (Some c) a = access_fits w c a && closing_fits (is_committed_before recs tx) w (closing w c a)
+
+-- each answered access answers what the footprint's values say, and each closing answer what was decided
+abbrev pub told : Journal → Bool
+told j = each_answer (told_of_call (noted j.scenario j.groups)) j

@@ -1,6 +1,0 @@
-use Rattle.std.proofs.Common.{drop, ◌++◌, ◌≡◌}
-use Rattle.base_words.specs.Directory.{without_node}
-use Rattle.partition_exchange.proofs.seeing.without_node.Given as goal
-
-abbrev pub invariant-loop-member : goal.invariant-loop-member
-invariant-loop-member l = l.others ++ without_node l.node (drop l.member-index l.members) ≡ without_node l.node l.members
