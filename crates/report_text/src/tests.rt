@@ -12,6 +12,12 @@ use tx_model::{CommitEntry, Outlook, Standing};
 
 const TOP: TopVer = TopVer { major: 1, minor: 0 };
 
+const NEXT: TopVer = TopVer { major: 1, minor: 1 };
+
+const SECOND_TOP: TopVer = TopVer { major: 2, minor: 0 };
+
+const HIGHEST: TopVer = TopVer { major: 2, minor: 1 };
+
 const A: TxId = TxId {
     node: NodeId(1),
     session: 1,
@@ -162,42 +168,55 @@ fn edge(node: u32, key: Key, waiter: TxId, holder: TxId) -> Edge {
     }
 }
 
-fn answer(session: u32, answer: Answer) -> Rec {
-    Rec::Answer { session, answer }
-}
-
-fn planned(place: usize, refused: Option<NoLoss>) -> Rec {
-    Rec::Planned { place, refused }
-}
-
-fn opened(major: u64, minor: u64) -> Rec {
-    Rec::Opened {
-        top: TopVer { major, minor },
+/// The records of these answers, each to the session of its number, and of what came of the plan's first steps.
+fn records(
+    alloc: Global,
+    answers: &[(u32, Answer)],
+    outcomes: &[Option<NoLoss>],
+) -> Mem<List<Rec>> {
+    let mut recs = List::new(alloc);
+    for (session, answer) in answers {
+        recs.push(Rec::Answer {
+            session: *session,
+            answer: *answer,
+        })?;
     }
+    for (place, refused) in outcomes.iter().enumerate() {
+        recs.push(Rec::Planned {
+            place,
+            refused: *refused,
+        })?;
+    }
+    Ok(recs)
+}
+
+/// Adds a search that finds these edges.
+fn push_search(alloc: Global, recs: &mut List<Rec>, tx: TxId, edges: &[Edge]) -> Mem<()> {
+    let edges = List::from_slice(alloc, edges)?;
+    recs.push(Rec::Searched { tx, edges })
+}
+
+/// Adds that these versions were opened.
+fn push_opened(recs: &mut List<Rec>, tops: &[TopVer]) -> Mem<()> {
+    for top in tops {
+        recs.push(Rec::Opened { top: *top })?;
+    }
+    Ok(())
 }
 
 /// The records of a run of the first scenario, in which one search finds no circle.
 fn first_records(alloc: Global, a: Key, b: Key) -> Mem<List<Rec>> {
-    let edges = [edge(1, a, A, B), edge(2, b, B, A)];
-    let recs = vec![in alloc;
-        answer(1, Answer::Done),
-        answer(2, Answer::Absent),
-        answer(1, Answer::RolledBack),
-        planned(0, None),
-        planned(1, Some(NoLoss::NotIn)),
-        planned(2, Some(NoLoss::LeavesPartition(3))),
-        Rec::Searched {
-            tx: B,
-            edges: List::new(alloc)
-        },
-        Rec::Searched {
-            tx: A,
-            edges: List::from_slice(alloc, &edges)?
-        },
-        opened(2, 1),
-        opened(2, 0),
-    ]?;
-    Ok(List::from_vec(recs))
+    let answers = [
+        (1, Answer::Done),
+        (2, Answer::Absent),
+        (1, Answer::RolledBack),
+    ];
+    let outcomes = [None, Some(NoLoss::NotIn), Some(NoLoss::LeavesPartition(3))];
+    let mut recs = records(alloc, &answers, &outcomes)?;
+    push_search(alloc, &mut recs, B, &[])?;
+    push_search(alloc, &mut recs, A, &[edge(1, a, A, B), edge(2, b, B, A)])?;
+    push_opened(&mut recs, &[HIGHEST, SECOND_TOP])?;
+    Ok(recs)
 }
 
 #[test]
@@ -225,19 +244,18 @@ fn reports_format_1(rt: HostRuntime) -> Result<(), Fail> {
     Ok(())
 }
 
-/// The records of a run of the second scenario: ten numbers are drawn at once, of which the second is kept.
+/// The records of a run of the second scenario: ten numbers are drawn, and the second one is kept.
 fn second_records(alloc: Global, ten: Value) -> Mem<List<Rec>> {
-    let recs = vec![in alloc;
-        answer(1, Answer::Found(ten)),
-        answer(1, Answer::Done),
-        answer(1, Answer::Absent),
-        answer(1, Answer::Absent),
-        answer(1, Answer::Committed),
-        planned(0, None),
-        planned(1, Some(NoLoss::LeavesPartition(9))),
-        opened(1, 1),
-    ]?;
-    Ok(List::from_vec(recs))
+    let answers = [
+        (1, Answer::Found(ten)),
+        (1, Answer::Done),
+        (1, Answer::Absent),
+        (1, Answer::Absent),
+        (1, Answer::Committed),
+    ];
+    let mut recs = records(alloc, &answers, &[None, Some(NoLoss::LeavesPartition(9))])?;
+    push_opened(&mut recs, &[NEXT])?;
+    Ok(recs)
 }
 
 #[test]
@@ -257,7 +275,7 @@ fn reports_format_2(rt: HostRuntime) -> Result<(), Fail> {
     let standings = [
         Standing::Ended,
         Standing::Queued(NodeId(1), edge(1, x, B, A).wait),
-        Standing::Unopened(TopVer { major: 1, minor: 1 }, A),
+        Standing::Unopened(NEXT, A),
         Standing::Held(NodeId(1), NodeId(2)),
     ];
     let shown = Outlook {
