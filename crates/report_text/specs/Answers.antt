@@ -44,7 +44,8 @@ abbrev pub version_text : CacheVersion → List ℕ
 version_text ver = top_text ver.top ++ ((58 ∷ decimal ver.order) ++ (58 ∷ decimal ver.node.0))
 
 abbrev pub fail_text : Scenario → Fail → List ℕ
-fail_text s (Changed key had has) = (codes "changed " ++ key_text s key) ++ ((codes " had " ++ version_text had) ++ (codes " has " ++ version_text has))
+fail_text s (Changed key had has) =
+    (codes "changed " ++ key_text s key) ++ ((codes " had " ++ version_text had) ++ (codes " has " ++ version_text has))
 fail_text s (Candidate key holder) = (codes "locked " ++ key_text s key) ++ (codes " by " ++ tx_text s holder)
 
 abbrev pub fault_text : Scenario → Fault → List ℕ

@@ -18,11 +18,13 @@ later a b = match_ordering (top_cmp a b) b a a
 -- a search that found no circle has no edges
 abbrev pub with_search : Digest → TxId → List Edge → Digest
 with_search d tx edges =
-    if length edges == 0 then d else record d { deadlocks = d.deadlocks ++ record { tx = tx; edges = edges } ∷ [] }
+    if length edges == 0 then d
+    else record d { deadlocks = d.deadlocks ++ record { tx = tx; edges = edges } ∷ [] }
 
 -- the answers, the plan steps done or refused, the deadlocks, and the highest version that was opened
 abbrev pub with_rec : Digest → Rec → Digest
-with_rec d (note.Answer session answer) = record d { answers = d.answers ++ record { session = session; answer = answer } ∷ [] }
+with_rec d (note.Answer session answer) =
+    record d { answers = d.answers ++ record { session = session; answer = answer } ∷ [] }
 with_rec d (note.Planned place refused) = record d { steps = d.steps ++ (place, refused) ∷ [] }
 with_rec d (note.Searched tx edges) = with_search d tx edges
 with_rec d (note.Opened top) = record d { top = later d.top top }

@@ -37,7 +37,8 @@ is_open _ = true
 
 -- `stalled NAME: `, and what it waits for
 abbrev pub open_line : Scenario → Session → Standing → List ℕ
-open_line s session stands = (codes "stalled " ++ session.name) ++ ((codes ": " ++ waits_text s stands) ++ 10 ∷ [])
+open_line s session stands =
+    (codes "stalled " ++ session.name) ++ ((codes ": " ++ waits_text s stands) ++ 10 ∷ [])
 
 abbrev pub stalled_line : Scenario → Session → Option Standing → List ℕ
 stalled_line s session None = []
@@ -46,7 +47,8 @@ stalled_line s session (Some stands) = if is_open stands then open_line s sessio
 -- the lines of the sessions, the first of which stands at this place
 abbrev pub stalled_lines : Scenario → List Standing → ℕ → List Session → List ℕ
 stalled_lines s standings place [] = []
-stalled_lines s standings place (x ∷ xs) = stalled_line s x (slice_get standings place) ++ stalled_lines s standings (place + 1) xs
+stalled_lines s standings place (x ∷ xs) =
+    stalled_line s x (slice_get standings place) ++ stalled_lines s standings (place + 1) xs
 
 -- only a stalled run has them
 abbrev pub stalled_part : Scenario → List Standing → End → List ℕ

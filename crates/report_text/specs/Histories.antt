@@ -38,7 +38,8 @@ commit_name s e = tx_text s e.tx ++ (32 ∷ top_text e.top)
 
 -- ` reads R writes W`
 abbrev pub footprint_text : Scenario → CommitEntry → List ℕ
-footprint_text s e = (codes " reads " ++ changes_text s e.reads) ++ (codes " writes " ++ changes_text s e.writes)
+footprint_text s e =
+    (codes " reads " ++ changes_text s e.reads) ++ (codes " writes " ++ changes_text s e.writes)
 
 -- `i T TOP reads R writes W`
 abbrev pub history_line : Scenario → ℕ → CommitEntry → List ℕ
@@ -54,8 +55,8 @@ history_part s commits = count_line (codes "history") (length commits) ++ histor
 
 -- The map after the history.
 
--- the caches that run in the version `top`: these, and what later events up to it start and stop, `now` being the version
--- before those
+-- the caches that run in the version `top`: these, and what later events up to it start and stop, `now` being the
+-- version before those
 abbrev pub running_in : TopVer → TopVer → List ℕ → List TopoEvent → List ℕ
 running_in top now running [] = running
 running_in top now running (event ∷ events) =

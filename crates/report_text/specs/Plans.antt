@@ -20,7 +20,9 @@ count_line word count = word ++ ((32 ∷ decimal count) ++ 10 ∷ [])
 -- `NAME/P`, P being the partition's place within its cache
 abbrev pub part_among : List Cache → ℕ → List ℕ
 part_among [] part = decimal part
-part_among (cache ∷ caches) part = if nat_lt part cache.parts then cache.name ++ (47 ∷ decimal part) else part_among caches (part - cache.parts)
+part_among (cache ∷ caches) part =
+    if nat_lt part cache.parts then cache.name ++ (47 ∷ decimal part)
+    else part_among caches (part - cache.parts)
 
 abbrev pub part_text : Scenario → ℕ → List ℕ
 part_text s part = if s.format == 2 then part_among s.caches part else decimal part
@@ -37,7 +39,8 @@ planned_text s planned = decimal planned.moment ++ (32 ∷ step_text s planned.s
 -- `M STEP: ok`, or why the step was refused
 abbrev pub step_line : Scenario → Option PlanStep → Option NoLoss → List ℕ
 step_line s None refused = []
-step_line s (Some planned) refused = planned_text s planned ++ ((codes ": " ++ refusal_text s refused) ++ 10 ∷ [])
+step_line s (Some planned) refused =
+    planned_text s planned ++ ((codes ": " ++ refusal_text s refused) ++ 10 ∷ [])
 
 abbrev pub step_lines : Scenario → List (ℕ × Option NoLoss) → List ℕ
 step_lines s [] = []
@@ -52,8 +55,10 @@ waiting_text s wait = tx_text s wait.waiter ++ (codes " waits for " ++ tx_text s
 
 -- `T waits for U on KEY at N`
 abbrev pub wait_text : Scenario → NodeId → Wait → List ℕ
-wait_text s node wait = waiting_text s wait ++ ((codes " on " ++ key_text s wait.key) ++ (codes " at " ++ decimal node.0))
+wait_text s node wait =
+    waiting_text s wait ++ ((codes " on " ++ key_text s wait.key) ++ (codes " at " ++ decimal node.0))
 
+-- a wait of a deadlock, as a line; no proof but that of its writer looks into it
 unfoldable pub edge_line : Scenario → Edge → List ℕ
 edge_line s e = wait_text s e.node e.wait ++ 10 ∷ []
 
@@ -63,7 +68,8 @@ edge_lines s (e ∷ es) = edge_line s e ++ edge_lines s es
 
 -- `T edges E`, and a line for each
 abbrev pub deadlock_lines : Scenario → Deadlock → List ℕ
-deadlock_lines s d = (tx_text s d.tx ++ count_line (codes " edges") (length d.edges)) ++ edge_lines s d.edges
+deadlock_lines s d =
+    (tx_text s d.tx ++ count_line (codes " edges") (length d.edges)) ++ edge_lines s d.edges
 
 abbrev pub deadlocks_lines : Scenario → List Deadlock → List ℕ
 deadlocks_lines s [] = []

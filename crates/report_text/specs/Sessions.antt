@@ -17,7 +17,9 @@ use Rattle.tx_model.specs.declared.outlook.Standing.TheVariants as standing
 -- the answers to the session of this number
 abbrev pub answers_to : ℕ → List Given → List Answer
 answers_to number [] = []
-answers_to number (given ∷ more) = if given.session == number then given.answer ∷ answers_to number more else answers_to number more
+answers_to number (given ∷ more) =
+    if given.session == number then given.answer ∷ answers_to number more
+    else answers_to number more
 
 -- what an answer tells of the item at hand; past the script it is that of the close
 abbrev pub told_by : List Item → Progress → Answer → Option Item → List Told
@@ -27,7 +29,9 @@ told_by script p answer (Some item) = (advance script p answer).told
 -- what the items, and the close behind them, are answered
 abbrev pub all_told : List Item → Progress → List Answer → List Told
 all_told script p [] = []
-all_told script p (answer ∷ answers) = told_by script p answer (slice_get script p.place) ++ all_told script (advance script p answer).progress answers
+all_told script p (answer ∷ answers) =
+    told_by script p answer (slice_get script p.place)
+    ++ all_told script (advance script p answer).progress answers
 
 -- the item that is answered: past the script it is the close of the session
 abbrev pub answered_item : Scenario → Option Item → List ℕ
@@ -36,16 +40,19 @@ answered_item s (Some item) = item_text s item
 
 -- `k ITEM: ANSWER`
 abbrev pub told_line : Scenario → ℕ → Option Item → Told → List ℕ
-told_line s k item told = (decimal k ++ (32 ∷ answered_item s item)) ++ ((codes ": " ++ told_text s told) ++ 10 ∷ [])
+told_line s k item told =
+    (decimal k ++ (32 ∷ answered_item s item)) ++ ((codes ": " ++ told_text s told) ++ 10 ∷ [])
 
 -- the lines of what was told, the first of which is of the item at this place
 abbrev pub told_lines : Scenario → List Item → ℕ → List Told → List ℕ
 told_lines s script place [] = []
-told_lines s script place (x ∷ xs) = told_line s (place + 1) (slice_get script place) x ++ told_lines s script (place + 1) xs
+told_lines s script place (x ∷ xs) =
+    told_line s (place + 1) (slice_get script place) x ++ told_lines s script (place + 1) xs
 
 -- `session NAME on N`
 abbrev pub session_line : Session → List ℕ
-session_line session = (codes "session " ++ session.name) ++ ((codes " on " ++ decimal session.node.0) ++ 10 ∷ [])
+session_line session =
+    (codes "session " ++ session.name) ++ ((codes " on " ++ decimal session.node.0) ++ 10 ∷ [])
 
 -- `lost: node N`, where the session was lost with its node
 abbrev pub lost_line : Option Standing → List ℕ
@@ -55,10 +62,12 @@ lost_line _ = []
 -- a session: its line, a line for each answer, and whether it was lost
 abbrev pub session_lines : Scenario → Session → List Answer → Option Standing → List ℕ
 session_lines s session answers stands =
-    session_line session ++ (told_lines s session.commands 0 (all_told session.commands no_progress answers) ++ lost_line stands)
+    session_line session
+    ++ (told_lines s session.commands 0 (all_told session.commands no_progress answers) ++ lost_line stands)
 
 -- the sessions, the first of which stands at this place
 abbrev pub sessions_lines : Scenario → List Given → List Standing → ℕ → List Session → List ℕ
 sessions_lines s given standings place [] = []
-sessions_lines s given standings place (x ∷ xs) = session_lines s x (answers_to (place + 1) given) (slice_get standings place)
+sessions_lines s given standings place (x ∷ xs) =
+    session_lines s x (answers_to (place + 1) given) (slice_get standings place)
     ++ sessions_lines s given standings (place + 1) xs

@@ -94,7 +94,7 @@ pub fn write_version(out: &mut TextOut, ver: &CacheVersion) -> Mem<()>
 }
 
 /// Writes a word and a key.
-fn write_on(out: &mut TextOut, scenario: &Scenario, word: &str, key: &Key) -> Mem<()>
+pub fn write_word_key(out: &mut TextOut, scenario: &Scenario, word: &str, key: &Key) -> Mem<()>
     ensures { OnOk result (out.new ≡ out.old ++ (word.now ++ key_text scenario.now key.now)) }
 {
     out.text(word)?;
@@ -102,7 +102,7 @@ fn write_on(out: &mut TextOut, scenario: &Scenario, word: &str, key: &Key) -> Me
 }
 
 /// Writes a word and an entry's version.
-fn write_seen(out: &mut TextOut, word: &str, ver: &CacheVersion) -> Mem<()>
+fn write_word_version(out: &mut TextOut, word: &str, ver: &CacheVersion) -> Mem<()>
     ensures { OnOk result (out.new ≡ out.old ++ (word.now ++ version_text ver.now)) }
 {
     out.text(word)?;
@@ -115,12 +115,12 @@ fn write_fail(out: &mut TextOut, scenario: &Scenario, fail: &Fail) -> Mem<()>
 {
     match fail {
         Fail::Changed { key, had, has } => {
-            write_on(out, scenario, "changed ", key)?;
-            write_seen(out, " had ", had)?;
-            write_seen(out, " has ", has)
+            write_word_key(out, scenario, "changed ", key)?;
+            write_word_version(out, " had ", had)?;
+            write_word_version(out, " has ", has)
         }
         Fail::Candidate { key, holder } => {
-            write_on(out, scenario, "locked ", key)?;
+            write_word_key(out, scenario, "locked ", key)?;
             write_word_tx(out, scenario, " by ", holder)
         }
     }

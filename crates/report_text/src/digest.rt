@@ -3,6 +3,7 @@
 ghost use Rattle.std.specs.Prelude.{◌≡◌, OnOk, IfOk};
 ghost use Rattle.report_text.specs.Digests as digests;
 
+use discovery_order::first_top;
 use ignite_types::{Answer, Edge, Group, List, Mem, NoLoss, Rec, TopVer, TxId};
 use std::alloc::Global;
 use std::cmp::Ordering;
@@ -14,7 +15,7 @@ pub struct Given {
     pub answer: Answer,
 }
 
-/// A deadlock that was found: the transaction that timed out, and the waits of the circle, beginning with its own.
+/// A deadlock that was found: the transaction that timed out, and the waits of the circle, its own first.
 #[derive(Debug, PartialEq, Drop)]
 pub struct Deadlock {
     pub tx: TxId,
@@ -51,10 +52,11 @@ impl Digest {
             answers: List::new(alloc),
             steps: List::new(alloc),
             deadlocks: List::new(alloc),
-            top: TopVer { major: 1, minor: 0 },
+            top: first_top(),
         }
     }
 
+    /// A search that found no circle adds nothing.
     fn add_search(&mut self, alloc: Global, tx: TxId, edges: &[Edge]) -> Mem<()>
         ensures { OnOk result (self.new ≡ digests.with_search self.old tx edges.now) }
     {
@@ -65,6 +67,7 @@ impl Digest {
         self.deadlocks.push(Deadlock { tx, edges })
     }
 
+    /// Takes what the report needs from these records.
     fn add_all(&mut self, alloc: Global, recs: &[Rec]) -> Mem<()>
         ensures { OnOk result (self.new ≡ digests.with_recs self.old recs.now) }
     {

@@ -93,6 +93,7 @@ fn write_stalled(
     }
 }
 
+/// Writes what the sessions that have not ended wait for.
 fn write_stalled_lines(out: &mut TextOut, scenario: &Scenario, shown: &Outlook) -> Mem<()>
     ensures { OnOk result (out.new ≡ out.old ++ endings.stalled_lines scenario.now shown.now.standings 0 scenario.now.sessions) }
 {

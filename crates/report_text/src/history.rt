@@ -217,7 +217,7 @@ fn write_map(out: &mut TextOut, scenario: &Scenario, entries: &[(Key, Value)]) -
     write_map_lines(out, scenario, entries)
 }
 
-/// Writes the map that the commits leave, of the caches that run in this version after these topology events.
+/// Writes the map that the commits leave, of the caches that these topology events leave running in this version.
 pub fn write_map_of(
     alloc: Global,
     out: &mut TextOut,

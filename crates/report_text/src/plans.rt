@@ -4,10 +4,10 @@ ghost use Rattle.std.specs.Prelude.{◌≡◌, ◌++◌, ◌-◌, slice_get, OnO
 ghost use Rattle.std.specs.Option.{option_copied};
 ghost use Rattle.report_text.specs.Plans as plans;
 
-use crate::answers::{write_node, write_tx, write_word_tx};
+use crate::answers::{write_node, write_tx, write_word_key, write_word_tx};
 use crate::digest::Deadlock;
 use ignite_types::{Cache, Edge, Mem, NoLoss, NodeId, PlanStep, Scenario, Wait};
-use scen_text::{TextOut, write_key, write_step};
+use scen_text::{TextOut, write_step};
 
 /// Writes a word and a number, as a line.
 pub fn write_count(out: &mut TextOut, word: &str, count: u64) -> Mem<()>
@@ -87,6 +87,7 @@ fn write_step_line(
     out.byte(b'\n')
 }
 
+/// Writes the lines of the plan steps.
 fn write_step_lines(
     out: &mut TextOut,
     scenario: &Scenario,
@@ -125,8 +126,7 @@ pub fn write_wait(out: &mut TextOut, scenario: &Scenario, node: NodeId, wait: &W
     ensures { OnOk result (out.new ≡ out.old ++ plans.wait_text scenario.now node wait.now) }
 {
     write_waiting(out, scenario, wait)?;
-    out.text(" on ")?;
-    write_key(out, scenario, &wait.key)?;
+    write_word_key(out, scenario, " on ", &wait.key)?;
     write_node(out, " at ", node)
 }
 
@@ -139,6 +139,7 @@ fn write_edge(out: &mut TextOut, scenario: &Scenario, edge: &Edge) -> Mem<()>
     out.byte(b'\n')
 }
 
+/// Writes the waits of a deadlock.
 fn write_edges(out: &mut TextOut, scenario: &Scenario, edges: &[Edge]) -> Mem<()>
     ensures { OnOk result (out.new ≡ out.old ++ plans.edge_lines scenario.now edges.now) }
 {
@@ -157,6 +158,7 @@ fn write_deadlock(out: &mut TextOut, scenario: &Scenario, deadlock: &Deadlock) -
     write_edges(out, scenario, deadlock.edges.as_slice())
 }
 
+/// Writes the lines of the deadlocks.
 fn write_deadlocks_lines(out: &mut TextOut, scenario: &Scenario, deadlocks: &[Deadlock]) -> Mem<()>
     ensures { OnOk result (out.new ≡ out.old ++ plans.deadlocks_lines scenario.now deadlocks.now) }
 {

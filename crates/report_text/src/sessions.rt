@@ -28,8 +28,8 @@ fn answers_to(alloc: Global, number: usize, all: &[Given]) -> Mem<List<Answer>>
     Ok(answers)
 }
 
-/// What an answer tells of the item at hand, and how far the session has come after it; past the script it is that of
-/// the close.
+/// How far the session has come after an answer, and what it tells of the item at hand; past the script it is that
+/// of the close.
 fn told_by(
     alloc: Global,
     script: &[Item],

@@ -44,6 +44,7 @@ fn write_trace_line(out: &mut TextOut, scenario: &Scenario, number: u64, event: 
     out.byte(b'\n')
 }
 
+/// Writes the lines of the events.
 fn write_trace_lines(out: &mut TextOut, scenario: &Scenario, groups: &[Group]) -> Mem<()>
     ensures { OnOk result (out.new ≡ out.old ++ traces.trace_lines scenario.now 0 groups.now) }
 {

@@ -67,7 +67,7 @@ fn write_last(
     write_count(out, "end", end_status(journal.end))
 }
 
-/// The report of a journal with these commits, whose world shows this at its end, with or without the trace.
+/// The report of a journal with these commits, whose world shows this at its end; the trace if it is asked for.
 pub fn report(
     alloc: Global,
     journal: &Journal,
