@@ -1,11 +1,11 @@
 //! The names of nodes, transactions and versions. Each is compared field by field, the first field first.
 
 /// A node's number, 1 to 99.
-#[derive(Clone, Copy, Debug, PartialEq, Eq, PartialOrd, Ord)]
+#[derive(Clone, Copy, Debug, PartialEq, Eq, PartialOrd, Ord, Hash)]
 pub struct NodeId(pub u32);
 
 /// A topology version. A join or a loss raises `major`, the late switch of owners and a cache's start or stop `minor`.
-#[derive(Clone, Copy, Debug, PartialEq, Eq, PartialOrd, Ord)]
+#[derive(Clone, Copy, Debug, PartialEq, Eq, PartialOrd, Ord, Hash)]
 pub struct TopVer {
     pub major: u64,
     pub minor: u64,
@@ -21,7 +21,7 @@ pub struct CacheVersion {
 }
 
 /// A transaction's name: the node on which it was started, its session and its number there, both from 1.
-#[derive(Clone, Copy, Debug, PartialEq, Eq, PartialOrd, Ord)]
+#[derive(Clone, Copy, Debug, PartialEq, Eq, PartialOrd, Ord, Hash)]
 pub struct TxId {
     pub node: NodeId,
     pub session: u32,

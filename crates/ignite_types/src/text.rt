@@ -14,7 +14,7 @@ pub const KEY_BYTES: usize = 32;
 pub const VALUE_BYTES: usize = 64;
 
 /// A key: a cache's number and at most 32 bytes. Compared by the number, then by the bytes.
-#[derive(Clone, Copy, Debug, PartialEq, Eq, PartialOrd, Ord)]
+#[derive(Clone, Copy, Debug, PartialEq, Eq, PartialOrd, Ord, Hash)]
 pub struct Key {
     pub cache: u32,
     pub text: ShortText<KEY_BYTES>,

@@ -3,7 +3,7 @@ use Rattle.std.specs.Prelude.{◌≡◌, ℕ, Bool, true, false, List, [], ◌�
 use Rattle.scen_text.specs.declared.cause.What.{What}
 use Rattle.scen_text.specs.declared.cause.What.TheVariants as what
 use Rattle.scen_text.specs.declared.cause.Cause.{Cause}
-use Rattle.scen_text.specs.declared.cause.Cause.TheVariants.{TooLong, NotUtf8, UnknownWord, Syntax, Limit, NoSuchNode, NoSuchCache, DoubleName, Missing, NotYet}
+use Rattle.scen_text.specs.declared.cause.Cause.TheVariants.{TooLong, NotUtf8, UnknownWord, Syntax, Limit, NoSuchNode, NoSuchCache, DoubleName, Missing}
 use Rattle.scen_text.specs.declared.cause.LineFault.{LineFault}
 use Rattle.scen_text.specs.declared.cause.LineFault.TheVariants as fault
 use Rattle.scen_text.specs.declared.cause.ReadFault.{ReadFault}
@@ -46,7 +46,6 @@ cause_text NoSuchNode = codes "no such node"
 cause_text NoSuchCache = codes "no such cache"
 cause_text DoubleName = codes "double name"
 cause_text Missing = codes "missing"
-cause_text NotYet = codes "not yet"
 
 -- what stands behind the word `limit`
 abbrev pub past_text : Cause → List ℕ

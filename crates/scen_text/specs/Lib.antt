@@ -10,5 +10,4 @@ pub mod Places
 pub mod Plans
 pub mod Printing
 pub mod Reading
-pub mod Runnable
 pub mod Words

@@ -55,8 +55,6 @@ pub enum Cause {
     DoubleName,
     /// The first line, a cache, a server or an `end` is not there.
     Missing,
-    /// It is a scenario, of a form that is not run yet. The reader never answers this.
-    NotYet,
 }
 
 impl What {
@@ -104,7 +102,6 @@ impl Cause {
             Cause::NoSuchCache => "no such cache",
             Cause::DoubleName => "double name",
             Cause::Missing => "missing",
-            Cause::NotYet => "not yet",
         }
     }
 

@@ -14,7 +14,6 @@ mod place;
 mod plan_line;
 mod print;
 mod read;
-mod runnable;
 mod text_out;
 mod words;
 
@@ -22,7 +21,6 @@ pub use cause::{Cause, ReadFault, What, refusal_line};
 pub use items::{write_item, write_key};
 pub use print::{print_scenario, write_step};
 pub use read::{TEXT_BYTES, read_scenario};
-pub use runnable::not_yet;
 pub use text_out::TextOut;
 
 #[cfg(test)]

@@ -1,6 +1,4 @@
-use crate::{
-    Cause, ReadFault, TextOut, not_yet, print_scenario, read_scenario, refusal_line, write_item,
-};
+use crate::{Cause, ReadFault, TextOut, print_scenario, read_scenario, refusal_line, write_item};
 use ignite_types::{Command, Item, Key, Value};
 use std::alloc::Global;
 use std::test::Fail;
@@ -162,14 +160,6 @@ fn prints_what_it_read(rt: HostRuntime) -> Result<(), Fail> {
     assert_eq!(rt; printed(rt.alloc(), LOOSE)?.as_slice(), FIRST);
     assert_eq!(rt; printed(rt.alloc(), FIRST)?.as_slice(), FIRST);
     assert_eq!(rt; printed(rt.alloc(), SECOND)?.as_slice(), SECOND);
-    Ok(())
-}
-
-#[test]
-fn says_what_runs(rt: HostRuntime) -> Result<(), Fail> {
-    let text = b"scenario 1\nserver 1\nsession A 1\nbegin\nput a 1\ncommit\nget a\nend\n";
-    assert!(rt; !not_yet(&read_scenario(rt.alloc(), text.as_slice())?));
-    assert!(rt; not_yet(&read_scenario(rt.alloc(), FIRST)?));
     Ok(())
 }
 
