@@ -137,8 +137,8 @@ fn write_all(map: &mut Table<Key, Value>, writes: &[(Key, Option<Value>)]) -> Me
     Ok(())
 }
 
-/// The map that the commits leave.
-fn map_after(alloc: Global, commits: &[CommitEntry]) -> Mem<Table<Key, Value>>
+/// The map that the commits leave, of all caches.
+pub fn map_after(alloc: Global, commits: &[CommitEntry]) -> Mem<Table<Key, Value>>
     ensures { IfOk result (λ map. map ≡ map_after [] commits.now) }
 {
     let mut map = Table::new(alloc);
@@ -217,7 +217,22 @@ fn write_map(out: &mut TextOut, scenario: &Scenario, entries: &[(Key, Value)]) -
     write_map_lines(out, scenario, entries)
 }
 
-/// Writes the map that the commits leave, of the caches that these topology events leave running in this version.
+/// The map that the commits leave, of the caches that these topology events leave running in this version.
+pub fn shown_map(
+    alloc: Global,
+    scenario: &Scenario,
+    events: &[TopoEvent],
+    top: TopVer,
+    commits: &[CommitEntry],
+) -> Mem<List<(Key, Value)>>
+    ensures { IfOk result (λ shown. shown ≡ shown_entries (caches_of scenario.now events.now top) (map_after [] commits.now)) }
+{
+    let running = caches_of(alloc, scenario, events, top)?;
+    let map = map_after(alloc, commits)?;
+    shown_entries(alloc, running.as_slice(), map.as_slice())
+}
+
+/// Writes that map.
 pub fn write_map_of(
     alloc: Global,
     out: &mut TextOut,
@@ -228,8 +243,6 @@ pub fn write_map_of(
 ) -> Mem<()>
     ensures { OnOk result (out.new ≡ out.old ++ map_of_commits scenario.now (caches_of scenario.now events.now top) commits.now) }
 {
-    let running = caches_of(alloc, scenario, events, top)?;
-    let map = map_after(alloc, commits)?;
-    let shown = shown_entries(alloc, running.as_slice(), map.as_slice())?;
+    let shown = shown_map(alloc, scenario, events, top, commits)?;
     write_map(out, scenario, shown.as_slice())
 }

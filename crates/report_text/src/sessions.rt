@@ -16,7 +16,7 @@ use std::alloc::Global;
 use tx_model::{Outlook, Standing};
 
 /// The answers to the session of this number.
-fn answers_to(alloc: Global, number: usize, all: &[Given]) -> Mem<List<Answer>>
+pub fn answers_to(alloc: Global, number: usize, all: &[Given]) -> Mem<List<Answer>>
     ensures { IfOk result (λ answers. answers ≡ sessions.answers_to number all.now) }
 {
     let mut answers = List::new(alloc);
@@ -47,7 +47,7 @@ fn told_by(
 }
 
 /// What the items, and the close behind them, were answered.
-fn all_told(alloc: Global, script: &[Item], answers: &[Answer]) -> Mem<List<Told>>
+pub fn all_told(alloc: Global, script: &[Item], answers: &[Answer]) -> Mem<List<Told>>
     ensures { IfOk result (λ all. all ≡ sessions.all_told script.now no_progress answers.now) }
 {
     let mut all = List::new(alloc);
