@@ -1,7 +1,9 @@
 //! The directory.
 
-ghost use Rattle.std.specs.Prelude.{◌≡◌, [], OnOk, IfOk};
+ghost use Rattle.std.specs.Prelude.{◌≡◌, [], OnOk, OnErr, IfOk};
 ghost use Rattle.std.specs.Option.{option_copied};
+ghost use Rattle.ignite_types.specs.Names.{node_cmp};
+ghost use Rattle.ordered_set.specs.Members.{has};
 ghost use Rattle.base_words.specs.Directory.{appended, event_at, gave_answer, is_due, joined, next_step, opening_directory, step_done, step_due, ticked};
 
 use crate::topology::{change_members, first_top, node_set, version_after};
@@ -51,20 +53,50 @@ impl Directory {
 
     /// Appends a topology event.
     pub fn append(&mut self, alloc: Global, event: &TopoEvent) -> Mem<()>
-        ensures { OnOk result (self.new ≡ appended self.old event.now) }
+        ensures ok { OnOk result (self.new ≡ appended self.old event.now) }
+        ensures err { OnErr result (self.new ≡ self.old) }
     {
+        let mut members = List::from_slice(alloc, self.members.as_slice())?;
+        change_members(alloc, &mut members, event)?;
         self.events.push(*event)?;
-        change_members(alloc, &mut self.members, event)?;
+        self.members = members;
         self.last = version_after(self.last, event);
         Ok(())
     }
 
     /// Appends the join of a member.
     pub fn append_join(&mut self, alloc: Global, member: Member) -> Mem<()>
-        ensures { OnOk result (self.new ≡ joined self.old member) }
+        ensures ok { OnOk result (self.new ≡ joined self.old member) }
+        ensures err { OnErr result (self.new ≡ self.old) }
     {
+        let mut ever = self.ever.copy(alloc)?;
+        ever.insert(member.node)?;
         self.append(alloc, &TopoEvent::Join(member))?;
-        self.ever.insert(member.node)
+        self.ever = ever;
+        Ok(())
+    }
+
+    /// Whether the number was ever in.
+    pub fn was_ever_in(&self, node: NodeId) -> bool
+        ensures { result ≡ has node_cmp self.now.ever node }
+    {
+        self.ever.contains(&node)
+    }
+
+    /// The same directory once more.
+    pub fn copy(&self, alloc: Global) -> Mem<Directory>
+        ensures { IfOk result (λ copy. copy ≡ self.now) }
+    {
+        Ok(Directory {
+            events: List::from_slice(alloc, self.events.as_slice())?,
+            ever: self.ever.copy(alloc)?,
+            members: List::from_slice(alloc, self.members.as_slice())?,
+            last: self.last,
+            clock: self.clock,
+            answered: self.answered,
+            plan: List::from_slice(alloc, self.plan.as_slice())?,
+            done: self.done,
+        })
     }
 
     /// The clock.

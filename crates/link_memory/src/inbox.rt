@@ -1,13 +1,14 @@
 //! A node's inbox.
 
-ghost use Rattle.std.specs.Prelude.{◌≡◌, ◌++◌, false, [], ◌∷◌, drop, slice_get, OnOk, IfOk, MatchOption};
+ghost use Rattle.std.specs.Prelude.{◌≡◌, ◌++◌, false, [], ◌∷◌, drop, slice_get, OnOk, OnErr, IfOk, MatchOption};
 ghost use Rattle.std.specs.Option.{option_copied};
 ghost use Rattle.base_words.specs.Links.{emptied, emptied_each, is_held, new_inbox, oldest, popped, pushed, shut, with_hold};
 ghost use Rattle.base_words.specs.Tables.{keys_in};
 ghost use Rattle.link_memory.specs.Taking.{TakesLink, TakesNoLink};
 
-use ignite_types::{List, Mem, Message, NodeId};
+use ignite_types::{List, Mem, Message, NoMemory, NodeId};
 use ordered_table::Table;
+use plain_copies::Duplicate;
 use std::alloc::Global;
 use std::marker::Model;
 
@@ -53,7 +54,8 @@ fn vacant_link(alloc: Global) -> Link
 
 impl Link {
     fn push(&mut self, message: Message) -> Mem<()>
-        ensures { OnOk result (self.new ≡ record self.old { messages = self.old.messages ++ message ∷ [] }) }
+        ensures ok { OnOk result (self.new ≡ record self.old { messages = self.old.messages ++ message ∷ [] }) }
+        ensures err { OnErr result (self.new ≡ self.old) }
     {
         self.messages.push(message)
     }
@@ -95,6 +97,29 @@ impl Link {
     }
 }
 
+impl Link {
+    /// The same link once more.
+    fn copy(&self, alloc: Global) -> Mem<Link>
+        ensures { IfOk result (λ copy. copy ≡ self.now) }
+    {
+        Ok(Link {
+            held: self.held,
+            messages: self.messages.copy(alloc)?,
+        })
+    }
+}
+
+/// The same links once more.
+fn copied(alloc: Global, links: &Table<NodeId, Link>) -> Mem<Table<NodeId, Link>>
+    ensures { IfOk result (λ copy. copy ≡ links.now) }
+{
+    let mut copy = Table::new(alloc);
+    for (sender, link) in links.as_slice() {
+        copy.set(*sender, link.copy(alloc)?)?;
+    }
+    Ok(copy)
+}
+
 impl Inbox {
     /// The inbox with an empty link for each of these senders.
     pub fn new(alloc: Global, senders: &[NodeId]) -> Mem<Inbox>
@@ -123,18 +148,25 @@ impl Inbox {
     }
 
     /// Appends a message to its sender's; a closed inbox drops it.
-    #[tactic(auto, using(crate::proofs::LinkLaws::node_put_put))]
+    #[tactic(auto, using(crate::proofs::LinkLaws::node_put_put, crate::proofs::LinkLaws::node_put_there, crate::proofs::LinkLaws::node_put_back))]
     pub fn push(&mut self, from: NodeId, message: Message) -> Mem<()>
-        ensures { OnOk result (self.new ≡ pushed self.old from message) }
+        ensures ok { OnOk result (self.new ≡ pushed self.old from message) }
+        ensures err { OnErr result (self.new ≡ self.old) }
     {
         if self.closed {
             return Ok(());
         }
         match self.take_link(from) {
-            Some(mut link) => {
-                link.push(message)?;
-                self.links.set(from, link)
-            }
+            Some(mut link) => match link.push(message) {
+                Ok(()) => {
+                    let _vacant = self.links.replace(from, link);
+                    Ok(())
+                }
+                Err(NoMemory) => {
+                    let _vacant = self.links.replace(from, link);
+                    Err(NoMemory)
+                }
+            },
             None => Ok(()),
         }
     }
@@ -197,32 +229,32 @@ impl Inbox {
         }
     }
 
-    /// The senders, ascending.
-    fn senders(&self) -> Mem<List<NodeId>>
-        ensures { IfOk result (λ senders. senders ≡ keys_in self.now.links) }
+    /// Empties the link of each sender.
+    fn empty_each(&mut self)
+        ensures { self.new ≡ emptied_each self.old (keys_in self.old.links) }
     {
-        let mut senders = List::new(self.alloc);
-        for (sender, _) in self.links.as_slice() {
-            senders.push(*sender)?;
-        }
-        Ok(senders)
-    }
-
-    fn empty_each(&mut self, senders: &[NodeId])
-        ensures { self.new ≡ emptied_each self.old senders.now }
-    {
-        for sender in senders {
-            self.drop_node(*sender);
+        for place in 0..self.links.len() {
+            let sender = self.links.as_slice()[place].0;
+            self.drop_node(sender);
         }
     }
 
     /// Empties and closes the inbox; nothing else closes one.
-    pub fn shut(&mut self) -> Mem<()>
-        ensures { OnOk result (self.new ≡ shut self.old) }
+    pub fn shut(&mut self)
+        ensures { self.new ≡ shut self.old }
     {
-        let senders = self.senders()?;
-        self.empty_each(senders.as_slice());
+        self.empty_each();
         self.closed = true;
-        Ok(())
+    }
+
+    /// The same inbox once more.
+    pub fn copy(&self) -> Mem<Inbox>
+        ensures { IfOk result (λ copy. copy ≡ self.now) }
+    {
+        Ok(Inbox {
+            alloc: self.alloc,
+            closed: self.closed,
+            links: copied(self.alloc, &self.links)?,
+        })
     }
 }

@@ -11,5 +11,6 @@ pub mod GoodPlans
 pub mod GoodScripts
 pub mod GoodTexts
 pub mod NamedLines
+pub mod Seen
 pub mod Holds
 pub mod WordLemmas

@@ -6,8 +6,8 @@ ghost use Rattle.scen_text.specs.Known.{is_first, known, in_cache, cache_line_pl
 
 use crate::cause::{Cause, LineFault, What, fit, rule};
 use crate::known::{
-    cache_place, has_cache, has_line, has_member, has_object, has_server, has_session, is_named,
-    is_other, is_stopped, names_data, names_plain,
+    cache_place, has_cache, has_line, has_member, has_server, has_session, is_named, is_stopped,
+    names_data, names_plain,
 };
 use crate::limits::{
     Kind, Settings, bare_fits, bare_what, cache_of, default_cache, default_settings, keyed,
@@ -15,6 +15,7 @@ use crate::limits::{
 };
 use crate::line::{CacheWords, KeyWords, Line, Setting, Verb};
 use crate::meaning::line_of;
+use crate::objects::Objects;
 use crate::place::{Place, place_of};
 use crate::words::Name;
 use ignite_types::{
@@ -53,7 +54,7 @@ pub struct Draft {
     members: List<Member>,
     plan: List<PlanStep>,
     /// The kinds of the data objects, each object once.
-    objects: List<(Key, Kind)>,
+    objects: Objects,
     /// The whole sessions.
     sessions: List<Session>,
     /// The session that is being read.
@@ -89,7 +90,7 @@ impl Draft {
             nodes: List::new(alloc),
             members: List::new(alloc),
             plan: List::new(alloc),
-            objects: List::new(alloc),
+            objects: Objects::new(alloc),
             sessions: List::new(alloc),
             session: Draft::no_session(alloc),
         }
@@ -406,7 +407,7 @@ impl Draft {
         match (place, key) {
             (Some(number), Some(key)) => {
                 let key = in_cache(number, &key);
-                !is_other(self.objects.as_slice(), &key, kind)
+                !self.objects.is_other(&key, kind)
             }
             _ => true,
         }
@@ -431,12 +432,7 @@ impl Draft {
         ensures { OnOk result (self.new ≡ with_object self.old key.now kind) }
     {
         match kind {
-            Some(kind) => {
-                if !has_object(self.objects.as_slice(), key) {
-                    self.objects.push((*key, kind))?;
-                }
-                Ok(())
-            }
+            Some(kind) => self.objects.add(key, kind),
             None => Ok(()),
         }
     }

@@ -2,11 +2,10 @@
 
 ghost use Rattle.std.specs.Prelude.{◌≡◌, ◌<◌, ◌≤◌, length, IfSome};
 ghost use Rattle.ignite_types.specs.Good.{has_member, has_cache_line, stops};
-ghost use Rattle.scen_text.specs.Known.{cache_place, has_cache, names_data, names_plain, same_object, same_kind, is_other, has_object, is_named, has_server, has_line, has_session, is_stopped};
+ghost use Rattle.scen_text.specs.Known.{cache_place, has_cache, names_data, names_plain, is_named, has_server, has_line, has_session, is_stopped};
 
-use crate::limits::Kind;
 use crate::words::Name;
-use ignite_types::{Cache, Key, Member, NodeId, PlanStep, Session, Step};
+use ignite_types::{Cache, Member, NodeId, PlanStep, Session, Step};
 
 /// The number of the cache of this name.
 pub fn cache_place(caches: &[Cache], name: &[u8]) -> Option<usize>
@@ -41,39 +40,6 @@ pub fn names_plain(caches: &[Cache], name: &[u8]) -> bool
     caches
         .iter()
         .any(|cache| !cache.data && cache.name.as_slice() == name)
-}
-
-/// Whether these are one object.
-fn same_object(a: &Key, b: &Key) -> bool
-    ensures { result ≡ same_object a.now b.now }
-{
-    a.cache() == b.cache() && a.bytes() == b.bytes()
-}
-
-/// Whether these are one kind.
-fn same_kind(a: Kind, b: Kind) -> bool
-    ensures { result ≡ same_kind a b }
-{
-    match (a, b) {
-        (Kind::Long, Kind::Long) => true,
-        (Kind::Sequence, Kind::Sequence) => true,
-        (Kind::Queue, Kind::Queue) => true,
-        _ => false,
-    }
-}
-
-/// Whether the object is known to be of another kind.
-pub fn is_other(objects: &[(Key, Kind)], key: &Key, kind: Kind) -> bool
-    ensures { result ≡ is_other objects.now key.now kind }
-{
-    objects.iter().any(|known| same_object(&known.0, key) && !same_kind(known.1, kind))
-}
-
-/// Whether the object's kind is known.
-pub fn has_object(objects: &[(Key, Kind)], key: &Key) -> bool
-    ensures { result ≡ has_object objects.now key.now }
-{
-    objects.iter().any(|known| same_object(&known.0, key))
 }
 
 /// Whether the node has a line or joins.

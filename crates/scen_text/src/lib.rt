@@ -10,6 +10,7 @@ mod limits;
 mod line;
 mod lines;
 mod meaning;
+mod objects;
 mod place;
 mod plan_line;
 mod print;

@@ -60,37 +60,33 @@ fn empty_each(inboxes: &mut Vec<Inbox>, id: NodeId)
 
 impl World {
     /// The inbox at this place is emptied and closed.
-    fn shut_at(&mut self, place: Option<usize>) -> Mem<()>
-        ensures ok { OnOk result (self.new ≡ record self.old { now = shut_at self.old.now place (inbox_on self.old.now place) }) }
-        ensures err { OnErr result (KeepsPast self.old self.new) }
+    fn shut_at(&mut self, place: Option<usize>)
+        ensures { self.new ≡ record self.old { now = shut_at self.old.now place (inbox_on self.old.now place) } }
     {
         let Some(place) = place else {
-            return Ok(());
+            return;
         };
         if self.inboxes.len() <= place {
-            return Ok(());
+            return;
         }
         let inbox = &mut self.inboxes[place];
-        inbox.shut()
+        inbox.shut();
     }
 
     /// The links of a lost node are emptied in both directions, and its inbox is closed.
-    fn unlink(&mut self, id: NodeId, place: Option<usize>) -> Mem<()>
-        ensures ok { OnOk result (self.new ≡ record self.old { now = unlinked self.old.now id place }) }
-        ensures err { OnErr result (KeepsPast self.old self.new) }
+    fn unlink(&mut self, id: NodeId, place: Option<usize>)
+        ensures { self.new ≡ record self.old { now = unlinked self.old.now id place } }
     {
         empty_each(&mut self.inboxes, id);
-        self.shut_at(place)
+        self.shut_at(place);
     }
 
-    fn lose(&mut self, id: NodeId) -> Mem<()>
-        ensures ok { OnOk result (self.new ≡ record self.old { now = lost self.old.now id (place_of self.old.now id) }) }
-        ensures err { OnErr result (KeepsPast self.old self.new) }
+    fn lose(&mut self, id: NodeId)
+        ensures { self.new ≡ record self.old { now = lost self.old.now id (place_of self.old.now id) } }
     {
         let place = self.place_of(id);
-        self.unlink(id, place)?;
+        self.unlink(id, place);
         lose_each(&mut self.parts, id);
-        Ok(())
     }
 
     /// Why the loss of a node is refused, if it is.
@@ -111,7 +107,7 @@ impl World {
             let none = self.no_records();
             return self.pass(refused, none);
         }
-        self.lose(id)?;
+        self.lose(id);
         self.directory.append(self.alloc, &TopoEvent::Left(id))?;
         let mut recs = List::with_capacity(self.alloc, 1)?;
         recs.push(Rec::Lost { node: id })?;

@@ -1,0 +1,4 @@
+pub mod Ordered
+pub mod Tables
+pub mod Least
+pub mod Sorting
