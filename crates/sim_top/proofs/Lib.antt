@@ -1,3 +1,4 @@
 pub mod DriveLaws
+pub mod RangeLaws
 pub mod SaidLaws
 pub mod WorldLaws

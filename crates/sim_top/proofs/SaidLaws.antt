@@ -9,13 +9,16 @@ use Rattle.ignite_types.specs.declared.scenario.Scenario.{Scenario}
 use Rattle.std.specs.Io.KnownBytes.{append_known, IsAtEnd}
 use Rattle.host_io.specs.Faults.{Faulted}
 use Rattle.host_io.specs.Sink.{AppendsPart}
-use Rattle.report_text.specs.Report.{report_of}
 use Rattle.scen_text.specs.Reading.{scenario_of}
 use Rattle.scen_text.specs.Causes.{refusal_text}
 use Rattle.scen_text.specs.declared.cause.Cause.{Cause}
 use Rattle.scen_text.specs.declared.cause.Cause.TheVariants.{TooLong}
 use Rattle.std.proofs.lemmas.Bool.{lt-ltb}
-use Rattle.sim_top.specs.Sim.{Asked, IsRefused, LineSays, ReadSays, RefusalSays, Runs, RunSays, OutOfMemory, Follow, Means, Comes, Ends, Written, CutOff, Reading, Tells, Writing, WasRead, asked, usage_text}
+use Rattle.sim_top.specs.Sim.{Asked, IsRefused, LineSays, ReadSays, RefusalSays, Runs, RunSays, OutOfMemory, Follow, Means, Comes, Ends, Written, CutOff, Reading, Tells, Writing, WasRead, SaysIn, MadeUp, usage_text}
+use Rattle.sim_top.specs.Asked.{asked}
+use Rattle.sim_top.specs.Told.{told_text}
+use Rattle.sim_top.specs.declared.options.Form.{Form}
+use Rattle.sim_top.specs.declared.options.Form.TheVariants as form
 use Rattle.sim_top.specs.declared.options.Options.{Options}
 use Rattle.sim_top.specs.Drive.{Follows, PastFollows}
 use Rattle.sim_top.proofs.DriveLaws.{are_picked}
@@ -25,7 +28,7 @@ use Rattle.tx_model.specs.World.{World, all_over, possible}
 use Rattle.world_core.specs.Run.{Run}
 
 -- a run that is told is what it says
-pub runs_told : (o : Options) (s : Status) (j : Journal) (text : List ℕ) → Runs o s j → text ≡ report_of j o.trace → RunSays o j.scenario s j text
+pub runs_told : (o : Options) (s : Status) (j : Journal) (text : List ℕ) → Runs o s j → text ≡ told_text o j → RunSays o j.scenario s j text
 runs_told o status.AllEnded j text runs said = (refl, runs, said)
 runs_told o status.Stalled j text runs said = (refl, runs, said)
 runs_told o status.StepLimit j text runs said = (refl, runs, said)
@@ -118,16 +121,29 @@ meant_says o r status.Memory j text bytes ended read means = means
 meant_says o r status.ReadFault j text bytes ended read means = absurd means
 meant_says o r status.WriteFault j text bytes ended read means = absurd means
 
--- a call whose words ask for a run comes to what reading and running comes to
-pub asked_comes : (words : List (List ℕ)) (o : Options) (r : Reading) (s : Status) (j : Journal) (text : List ℕ) → asked words ≡ Some o → ReadSays o r s j text → Comes words r s j text
+-- no run ends by the usage line or a fault of the sink
+pub no_usage : (f : Form) (o : Options) (r : Reading) (j : Journal) (text : List ℕ) → SaysIn f o r status.Usage j text → ⊥
+no_usage form.Report o r j text says = says
+no_usage form.Trace o r j text says = says
+no_usage form.Json o r j text says = says
+no_usage (form.Summary make) o r j text says = says.says
+
+no_write_fault : (f : Form) (o : Options) (r : Reading) (j : Journal) (text : List ℕ) → SaysIn f o r status.WriteFault j text → ⊥
+no_write_fault form.Report o r j text says = says
+no_write_fault form.Trace o r j text says = says
+no_write_fault form.Json o r j text says = says
+no_write_fault (form.Summary make) o r j text says = says.says
+
+-- a call whose words ask for a run comes to what the run comes to
+pub asked_comes : (words : List (List ℕ)) (o : Options) (r : Reading) (s : Status) (j : Journal) (text : List ℕ) → asked words ≡ Some o → SaysIn o.form o r s j text → Comes words r s j text
 asked_comes words o r status.AllEnded j text meant says = record { options = o; meant = meant; says = says }
 asked_comes words o r status.Stalled j text meant says = record { options = o; meant = meant; says = says }
 asked_comes words o r status.StepLimit j text meant says = record { options = o; meant = meant; says = says }
-asked_comes words o r status.Usage j text meant says = absurd says
+asked_comes words o r status.Usage j text meant says = absurd (no_usage o.form o r j text says)
 asked_comes words o r status.Refused j text meant says = record { options = o; meant = meant; says = says }
 asked_comes words o r status.Memory j text meant says = inl (record { options = o; meant = meant; says = says })
 asked_comes words o r status.ReadFault j text meant says = record { options = o; meant = meant; says = says }
-asked_comes words o r status.WriteFault j text meant says = absurd says
+asked_comes words o r status.WriteFault j text meant says = absurd (no_write_fault o.form o r j text says)
 
 -- a call of other words is told so
 pub usage_comes : (words : List (List ℕ)) (r : Reading) (s : Status) (j : Journal) (text : List ℕ) → asked words ≡ None → r.after ≡ r.before → r.faults_after ≡ r.faults_before → LineSays status.Usage usage_text s j text → Comes words r s j text

@@ -1,2 +1,4 @@
+pub mod Asked
 pub mod Drive
 pub mod Sim
+pub mod Told

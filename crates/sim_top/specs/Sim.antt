@@ -1,8 +1,6 @@
 -- What a call of the simulator comes to: its status, its journal, and the text that is to be written.
-use Rattle.std.specs.Prelude.{◌≡◌, ◌≢◌, ◌⊎◌, ◌||◌, ℕ, List, [], Option, Some, None, Ok, Err, IfSome, is_some, length, codes, if◌then◌else◌, ◌++◌, ◌∷◌}
-use Rattle.std.specs.Option.{option_and_then}
-use Rattle.command_words.specs.Line.{line}
-use Rattle.command_words.specs.declared.SimWords.{SimWords}
+use Rattle.std.specs.Prelude.{◌≡◌, ◌≢◌, ◌⊎◌, ℕ, List, [], Option, Some, None, Ok, Err, IfSome, length, codes, ◌++◌, ◌∷◌}
+use Rattle.command_words.specs.declared.Make.{Make}
 use Rattle.ignite_types.specs.declared.journal.End.{End}
 use Rattle.ignite_types.specs.declared.journal.End.TheVariants as end
 use Rattle.ignite_types.specs.declared.journal.Journal.{Journal}
@@ -12,22 +10,19 @@ use Rattle.ignite_types.specs.declared.journal.Status.TheVariants as status
 use Rattle.std.specs.Io.KnownBytes.{append_known, IsAtEnd}
 use Rattle.host_io.specs.Faults.{Faulted}
 use Rattle.host_io.specs.Sink.{AppendsPart}
-use Rattle.report_text.specs.Report.{report_of}
 use Rattle.scen_text.specs.Causes.{Refusal, refusal_text}
 use Rattle.scen_text.specs.declared.cause.Cause.{Cause}
 use Rattle.scen_text.specs.Reading.{scenario_of}
+use Rattle.sched_seed.specs.Generated.{generated}
+use Rattle.sim_top.specs.Asked.{asked}
 use Rattle.sim_top.specs.Drive.{picks}
+use Rattle.sim_top.specs.Told.{told_text}
+use Rattle.sim_top.specs.declared.options.Form.{Form}
+use Rattle.sim_top.specs.declared.options.Form.TheVariants as form
 use Rattle.sim_top.specs.declared.options.Options.{Options}
 use Rattle.tx_model.specs.Opening.{opening}
 use Rattle.tx_model.specs.Runs.{after, AreSteps, IsLegal, IsScheduled}
 use Rattle.tx_model.specs.World.{possible}
-
--- what the words ask of a run; JSON and scenarios that are made up are not written yet
-abbrev pub unless_more : SimWords → Option Options
-unless_more w = if w.json || is_some w.make then None else Some (record { seed = w.seed; steps = w.steps; trace = w.trace })
-
-abbrev pub asked : List (List ℕ) → Option Options
-asked words = option_and_then unless_more (line words)
 
 abbrev pub usage_text : List ℕ
 usage_text = codes "usage: txsim [--seed N] [--steps N] [--trace] [--json] [--make N [--txs N]]" ++ (10 ∷ [])
@@ -74,9 +69,9 @@ Runs o _ j = ⊥
 
 -- what a run of a scenario comes to: its report is to be written, unless memory ran out
 abbrev pub RunSays : Options → Scenario → Status → Journal → List ℕ → Type 0
-RunSays o s status.AllEnded j text = (j.scenario ≡ s) × Runs o status.AllEnded j × (text ≡ report_of j o.trace)
-RunSays o s status.Stalled j text = (j.scenario ≡ s) × Runs o status.Stalled j × (text ≡ report_of j o.trace)
-RunSays o s status.StepLimit j text = (j.scenario ≡ s) × Runs o status.StepLimit j × (text ≡ report_of j o.trace)
+RunSays o s status.AllEnded j text = (j.scenario ≡ s) × Runs o status.AllEnded j × (text ≡ told_text o j)
+RunSays o s status.Stalled j text = (j.scenario ≡ s) × Runs o status.Stalled j × (text ≡ told_text o j)
+RunSays o s status.StepLimit j text = (j.scenario ≡ s) × Runs o status.StepLimit j × (text ≡ told_text o j)
 RunSays o s status.Memory j text = OutOfMemory o j text
 RunSays o s _ j text = ⊥
 
@@ -106,9 +101,9 @@ LineSays s said _ j text = ⊥
 
 -- what the bytes of a scenario come to
 abbrev pub Means : Options → List ℕ → Status → Journal → List ℕ → Type 0
-Means o bytes status.AllEnded j text = (scenario_of bytes ≡ Ok j.scenario) × Runs o status.AllEnded j × (text ≡ report_of j o.trace)
-Means o bytes status.Stalled j text = (scenario_of bytes ≡ Ok j.scenario) × Runs o status.Stalled j × (text ≡ report_of j o.trace)
-Means o bytes status.StepLimit j text = (scenario_of bytes ≡ Ok j.scenario) × Runs o status.StepLimit j × (text ≡ report_of j o.trace)
+Means o bytes status.AllEnded j text = (scenario_of bytes ≡ Ok j.scenario) × Runs o status.AllEnded j × (text ≡ told_text o j)
+Means o bytes status.Stalled j text = (scenario_of bytes ≡ Ok j.scenario) × Runs o status.Stalled j × (text ≡ told_text o j)
+Means o bytes status.StepLimit j text = (scenario_of bytes ≡ Ok j.scenario) × Runs o status.StepLimit j × (text ≡ told_text o j)
 Means o bytes status.Refused j text = IsRefused bytes text × (j.groups ≡ [])
 Means o bytes status.Memory j text = OutOfMemory o j text
 Means o bytes _ j text = ⊥
@@ -124,7 +119,7 @@ pub record WasUsage (r : Reading) (j : Journal) (text : List ℕ) : Type 0 where
 pub record WasRead (o : Options) (r : Reading) (s : Status) (j : Journal) (text : List ℕ) : Type 0 where
   pub read_out : IsAtEnd r.after
   pub means : IfSome r.before (λ bytes. Means o bytes s j text)
-  pub runs : Runs o s j × (text ≡ report_of j o.trace)
+  pub runs : Runs o s j × (text ≡ told_text o j)
 
 -- the text was refused: for its bytes, or for their number
 pub record WasRefused (r : Reading) (j : Journal) (text : List ℕ) : Type 0 where
@@ -146,11 +141,24 @@ ReadSays o r status.ReadFault j text = HadFault r j text
 ReadSays o r status.Memory j text = OutOfMemory o j text
 ReadSays o r _ j text = ⊥
 
+-- the source was left alone, and a scenario that the seed makes up was run
+pub record MadeUp (o : Options) (make : Make) (r : Reading) (s : Status) (j : Journal) (text : List ℕ) : Type 0 where
+  pub same : r.after ≡ r.before
+  pub same_faults : r.faults_after ≡ r.faults_before
+  pub says : RunSays o (generated o.seed make.sessions make.txs) s j text
+
+-- what a run comes to, whose scenario is read, or made up where the summary is asked for
+abbrev pub SaysIn : Form → Options → Reading → Status → Journal → List ℕ → Type 0
+SaysIn form.Report o r s j text = ReadSays o r s j text
+SaysIn form.Trace o r s j text = ReadSays o r s j text
+SaysIn form.Json o r s j text = ReadSays o r s j text
+SaysIn (form.Summary make) o r s j text = MadeUp o make r s j text
+
 -- the words ask for a run, and this is what it comes to
 pub record Asked (words : List (List ℕ)) (r : Reading) (s : Status) (j : Journal) (text : List ℕ) : Type 0 where
   pub options : Options
   pub meant : asked words ≡ Some options
-  pub says : ReadSays options r s j text
+  pub says : SaysIn options.form options r s j text
 
 -- what a call comes to with these words, before it is written
 abbrev pub Comes : List (List ℕ) → Reading → Status → Journal → List ℕ → Type 0

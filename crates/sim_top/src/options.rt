@@ -1,10 +1,23 @@
 //! What the words of the command line ask of a run.
 
 ghost use Rattle.std.specs.Prelude.{◌≡◌, map, string_bytes, IfOk, Some, None, Err};
-ghost use Rattle.sim_top.specs.Sim.{asked};
+ghost use Rattle.sim_top.specs.Asked.{asked, form_of, options_from};
 
-use command_words::{WordsFault, sim_words};
+use command_words::{Make, SimWords, WordsFault, sim_words};
 use std::alloc::Global;
+
+/// What is written of a run.
+#[derive(Clone, Copy, Debug, PartialEq, Eq)]
+pub enum Form {
+    /// The report.
+    Report,
+    /// The report with its trace: a line for each event.
+    Trace,
+    /// The history as JSON.
+    Json,
+    /// The summary of a run whose scenario is made up, by the seed.
+    Summary(Make),
+}
 
 /// How a run is made and told.
 #[derive(Clone, Copy, Debug, PartialEq, Eq)]
@@ -13,22 +26,37 @@ pub struct Options {
     pub seed: u64,
     /// The most events of the run.
     pub steps: u32,
-    /// Whether the report tells the events.
-    pub trace: bool,
+    /// What is written.
+    pub form: Form,
 }
 
-/// What the words ask for. JSON and scenarios that are made up are not written yet, so their words are refused.
+/// What is to be written.
+fn form_of(words: &SimWords) -> Form
+    ensures { result ≡ form_of words.now }
+{
+    match words.make {
+        Some(make) => Form::Summary(make),
+        None => {
+            if words.json {
+                Form::Json
+            } else if words.trace {
+                Form::Trace
+            } else {
+                Form::Report
+            }
+        }
+    }
+}
+
+/// What the words ask for.
 pub fn options_of(alloc: Global, words: &[String]) -> Result<Options, WordsFault>
     ensures ok { IfOk result (λ options. asked (map string_bytes words.now) ≡ Some options) }
     ensures usage { result ≡ Err WordsFault.Usage → asked (map string_bytes words.now) ≡ None }
 {
     let asked = sim_words(alloc, words)?;
-    if asked.json || asked.make.is_some() {
-        return Err(WordsFault::Usage);
-    }
     Ok(Options {
         seed: asked.seed,
         steps: asked.steps,
-        trace: asked.trace,
+        form: form_of(&asked),
     })
 }

@@ -1,22 +1,25 @@
 //! What a call of the simulator comes to, before it is written.
 
-ghost use Rattle.std.specs.Prelude.{◌≡◌, ◌≢◌, [], length, map, string_bytes, IfOk, MatchBool};
-ghost use Rattle.report_text.specs.Report.{report};
+ghost use Rattle.std.specs.Prelude.{◌≡◌, ◌≢◌, ◌≤◌, [], length, map, string_bytes, IfOk, MatchBool};
+ghost use Rattle.sched_seed.specs.Generated.{generated};
 ghost use Rattle.sim_top.specs.Drive.{Follows};
-ghost use Rattle.tx_model.specs.History.{commits_of};
+ghost use Rattle.sim_top.specs.Told.{made_by, told_text};
 ghost use Rattle.tx_model.specs.Outlooks.{outlook_of};
 ghost use Rattle.tx_model.specs.World.{possible};
 ghost use Rattle.world_core.specs.Run.{begun};
-ghost use Rattle.sim_top.specs.Sim.{Comes, LineSays, Means, ReadSays, RefusalSays, RunSays, Runs, read_fault_text, usage_text};
+ghost use Rattle.sim_top.specs.Asked.{HasRange};
+ghost use Rattle.sim_top.specs.Sim.{Comes, SaysIn, LineSays, Means, ReadSays, RefusalSays, RunSays, Runs, read_fault_text, usage_text};
 
 use crate::drive::drive;
-use crate::options::{Options, options_of};
-use command_words::WordsFault;
+use crate::options::{Form, Options, options_of};
+use command_words::{Make, WordsFault};
 use host_io::{ReadEnd, Source, read_all};
 use ignite_types::{End, Journal, List, Mem, NoMemory, Scenario, Status};
 use report_text::report;
 use scen_text::{Cause, ReadFault, read_scenario, refusal_line};
+use sched_seed::make_scenario;
 use std::alloc::Global;
+use summary_text::{Made, history_json, summary};
 use tx_model::{Outlook, commits};
 use world_core::World;
 
@@ -64,12 +67,33 @@ fn out_of_memory(alloc: Global, journal: Journal) -> Said
     }
 }
 
-/// The report of a journal, whose world shows this at its end.
-fn report_of(alloc: Global, journal: &Journal, shown: &Outlook, trace: bool) -> Mem<Vec<u8>>
-    ensures { IfOk result (λ text. text.items ≡ report journal.now shown.now (commits_of journal.now) trace) }
+/// What is to be written of a journal, whose world shows this at its end.
+fn text_of(alloc: Global, journal: &Journal, shown: &Outlook, options: Options) -> Mem<Vec<u8>>
+    requires { shown.now ≡ outlook_of journal.now }
+    ensures { IfOk result (λ text. text.items ≡ told_text options journal.now) }
 {
     let entries = commits(alloc, journal)?;
-    report(alloc, journal, shown, entries.as_slice(), trace)
+    let entries = entries.as_slice();
+    match options.form {
+        Form::Report => report(alloc, journal, shown, entries, false),
+        Form::Trace => report(alloc, journal, shown, entries, true),
+        Form::Json => history_json(alloc, &journal.scenario, entries),
+        Form::Summary(make) => {
+            let made = made_by(options.seed, make);
+            summary(alloc, journal, made, shown, entries)
+        }
+    }
+}
+
+/// How the scenario was made up.
+fn made_by(seed: u64, make: Make) -> Made
+    ensures { result ≡ made_by seed make }
+{
+    Made {
+        seed,
+        sessions: make.sessions,
+        txs: make.txs,
+    }
 }
 
 /// What the journal of a run comes to.
@@ -78,7 +102,7 @@ fn tell(alloc: Global, journal: Journal, shown: &Outlook, status: Status, option
     requires shown { shown.now ≡ outlook_of journal }
     ensures { RunSays options journal.scenario result.status result.journal result.text.items }
 {
-    match report_of(alloc, &journal, shown, options.trace) {
+    match text_of(alloc, &journal, shown, options) {
         Ok(text) => Said {
             status,
             journal,
@@ -206,12 +230,37 @@ fn read_said<S: Source>(alloc: Global, options: Options, source: &mut S) -> Said
     }
 }
 
+/// What running a scenario comes to that the seed makes up.
+fn made_said(alloc: Global, options: Options, make: Make) -> Said
+    requires few_sessions { make.sessions ≤ 64 }
+    requires few_txs { make.txs ≤ 100 }
+    ensures { RunSays options (generated options.seed make.sessions make.txs) result.status result.journal result.text.items }
+{
+    match make_scenario(alloc, options.seed, make.sessions, make.txs) {
+        Ok(scenario) => run(alloc, &scenario, options),
+        Err(NoMemory) => out_of_memory(alloc, no_run(alloc)),
+    }
+}
+
+/// What the run comes to that these options ask for.
+fn asked_said<S: Source>(alloc: Global, options: Options, source: &mut S) -> Said
+    requires { HasRange options.form }
+    ensures { SaysIn options.form options (record { before = S.left source.old; after = S.left source.new; faults_before = S.faults source.old; faults_after = S.faults source.new }) result.status result.journal result.text.items }
+{
+    match options.form {
+        Form::Report => read_said(alloc, options, source),
+        Form::Trace => read_said(alloc, options, source),
+        Form::Json => read_said(alloc, options, source),
+        Form::Summary(make) => made_said(alloc, options, make),
+    }
+}
+
 /// What a call comes to with these words and this source.
 pub fn say<S: Source>(alloc: Global, words: &[String], source: &mut S) -> Said
     ensures { Comes (map string_bytes words.now) (record { before = S.left source.old; after = S.left source.new; faults_before = S.faults source.old; faults_after = S.faults source.new }) result.status result.journal result.text.items }
 {
     match options_of(alloc, words) {
-        Ok(options) => read_said(alloc, options, source),
+        Ok(options) => asked_said(alloc, options, source),
         Err(WordsFault::Usage) => usage(alloc),
         Err(WordsFault::NoMemory) => out_of_memory(alloc, no_run(alloc)),
     }

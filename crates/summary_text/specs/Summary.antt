@@ -65,11 +65,16 @@ total_from sum (e ∷ es) = total_from (with_number sum (number_of e.1)) es
 abbrev pub total : Map → ℤ
 total m = total_from (pos 0) m
 
+abbrev pub number_text : List ℕ → ℕ → List ℕ
+number_text word number = word ++ decimal number
+
+-- `made sessions S txs T`
+abbrev pub sizes_text : Made → List ℕ
+sizes_text made = number_text (codes "made sessions ") made.sessions ++ number_text (codes " txs ") made.txs
+
 -- `made sessions S txs T seed N`
 abbrev pub made_line : Made → List ℕ
-made_line made =
-    (codes "made sessions " ++ decimal made.sessions)
-    ++ ((codes " txs " ++ decimal made.txs) ++ ((codes " seed " ++ decimal made.seed) ++ 10 ∷ []))
+made_line made = sizes_text made ++ (number_text (codes " seed ") made.seed ++ 10 ∷ [])
 
 abbrev pub told_lines : List Told → List ℕ
 told_lines tolds = count_line (codes "committed") (committed tolds) ++ count_line (codes "failed") (failed tolds)

@@ -1,10 +1,11 @@
 //! The history as JSON.
 
-ghost use Rattle.std.specs.Prelude.{◌≡◌, [], ◌∷◌, ◌++◌, string_bytes, IfOk, OnOk};
+ghost use Rattle.std.specs.Prelude.{◌≡◌, false, [], ◌∷◌, ◌++◌, string_bytes, IfOk, OnOk};
 ghost use Rattle.report_text.specs.Answers as names;
 ghost use Rattle.scen_text.specs.Items.{key_text};
 ghost use Rattle.serde_json.specs.Data.{array, put, string};
-ghost use Rattle.serde_json.specs.View.{items_view, members_view, view};
+ghost use Rattle.serde_json.specs.View.{members_view, view};
+ghost use Rattle.serde_json.specs.Written.{compact_text, has_float};
 ghost use Rattle.summary_text.specs.Json as json;
 ghost use Rattle.tx_model.specs.History as history;
 
@@ -91,11 +92,7 @@ fn pairs_json(alloc: Global, members: Map<String, Value>) -> Mem<Value>
 }
 
 /// What was read or written, by the texts of the keys.
-fn changes_json(
-    alloc: Global,
-    scenario: &Scenario,
-    changes: &[(Key, Option<Bytes>)],
-) -> Mem<Value>
+fn changes_json(alloc: Global, scenario: &Scenario, changes: &[(Key, Option<Bytes>)]) -> Mem<Value>
     ensures { IfOk result (λ list. view list ≡ json.changes_data scenario.now changes.now) }
 {
     let mut members = Map::new(alloc);
@@ -183,13 +180,21 @@ fn whole_json(alloc: Global, scenario: &Scenario, commits: &[CommitEntry]) -> Me
     Ok(Value::Object(members))
 }
 
+/// The compact text of a value without floats.
+fn compact(alloc: Global, value: &Value) -> Mem<String>
+    requires { has_float (view value.now) ≡ false }
+    ensures { IfOk result (λ text. string_bytes text ≡ compact_text (view value.now)) }
+{
+    Ok(value.to_string(alloc)?)
+}
+
 /// The history of a scenario's commits as JSON: an object with `history` and `map`, in compact form, and a line feed. Reads,
 /// writes and the map are lists of pairs in the order of the texts of their keys; null stands for an absent or a removed value.
 pub fn history_json(alloc: Global, scenario: &Scenario, commits: &[CommitEntry]) -> Mem<Vec<u8>>
     ensures { IfOk result (λ bytes. bytes.items ≡ json.history_json scenario.now commits.now) }
 {
-    let text = whole_json(alloc, scenario, commits)?.to_string(alloc)?;
-    let mut bytes = text.into_bytes();
+    let whole = whole_json(alloc, scenario, commits)?;
+    let mut bytes = compact(alloc, &whole)?.into_bytes();
     bytes.push(b'\n')?;
     Ok(bytes)
 }

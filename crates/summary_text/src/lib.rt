@@ -3,6 +3,8 @@
 
 mod json;
 mod made;
+#[cfg(test)]
+mod tests;
 
 pub use json::history_json;
 pub use made::{Made, summary};

@@ -38,12 +38,15 @@ fn is_committed(told: &Told) -> bool
     matches!(told, Told::Plain(Answer::Committed))
 }
 
-/// Appends what the commit commands among these items were told.
-fn add_commits(alloc: Global, script: &[Item], tolds: &[Told]) -> Mem<List<Told>>
+/// What the commit commands among these items were told.
+fn commits_told(alloc: Global, script: &[Item], tolds: &[Told]) -> Mem<List<Told>>
     ensures { IfOk result (λ found. found ≡ summaries.commits_told script.now tolds.now) }
 {
     let mut found = List::new(alloc);
-    for (item, told) in script.iter().zip(tolds) {
+    for (place, item) in script.iter().enumerate() {
+        let Some(told) = tolds.get(place) else {
+            return Ok(found);
+        };
         if is_commit(item) {
             found.push(*told)?;
         }
@@ -57,7 +60,7 @@ fn session_told(alloc: Global, given: &[Given], number: usize, session: &Session
 {
     let answers = answers_to(alloc, number, given)?;
     let tolds = all_told(alloc, session.commands.as_slice(), answers.as_slice())?;
-    add_commits(alloc, session.commands.as_slice(), tolds.as_slice())
+    commits_told(alloc, session.commands.as_slice(), tolds.as_slice())
 }
 
 /// What the commit commands of all sessions were told.
@@ -106,16 +109,28 @@ fn total(entries: &[(Key, Value)]) -> i64
     sum
 }
 
+/// Writes a word and a number.
+fn write_number(out: &mut TextOut, word: &str, number: u64) -> Mem<()>
+    ensures { OnOk result (out.new ≡ out.old ++ summaries.number_text word.now number) }
+{
+    out.text(word)?;
+    out.number(number)
+}
+
+/// Writes how many sessions and transactions were made.
+fn write_sizes(out: &mut TextOut, made: Made) -> Mem<()>
+    ensures { OnOk result (out.new ≡ out.old ++ summaries.sizes_text made) }
+{
+    write_number(out, "made sessions ", u64::from(made.sessions))?;
+    write_number(out, " txs ", u64::from(made.txs))
+}
+
 /// Writes how the scenario was made.
 fn write_made(out: &mut TextOut, made: Made) -> Mem<()>
     ensures { OnOk result (out.new ≡ out.old ++ summaries.made_line made) }
 {
-    out.text("made sessions ")?;
-    out.number(u64::from(made.sessions))?;
-    out.text(" txs ")?;
-    out.number(u64::from(made.txs))?;
-    out.text(" seed ")?;
-    out.number(made.seed)?;
+    write_sizes(out, made)?;
+    write_number(out, " seed ", made.seed)?;
     out.byte(b'\n')
 }
 
