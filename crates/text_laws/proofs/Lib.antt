@@ -1,3 +1,4 @@
+pub mod Again
 pub mod Caches
 pub mod Called
 pub mod Heads
