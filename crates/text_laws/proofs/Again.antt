@@ -1,5 +1,5 @@
 -- What a program reads of what it printed.
-use Rattle.std.proofs.Common.{◌≡◌, ℕ, ◌≤◌, true, List, length, sym, ap, ◌∙◌, subst}
+use Rattle.std.proofs.Common.{◌≡◌, ℕ, ◌≤◌, true, List, length, ap, ◌∙◌, subst}
 use Rattle.std.specs.Prelude.{Result, Ok, Err}
 use Rattle.ignite_types.specs.Good.{good}
 use Rattle.ignite_types.specs.declared.scenario.Scenario.{Scenario}

@@ -136,7 +136,7 @@ caches_taken (c ∷ cs) d two st lined order good distinct few sum =
         → taken d ((if is_data then codes "data" else codes "cache") ∷ shape_words c) ≡ Ok (with_line d is_data c) → CachesTaken (with_line d is_data c) cs → CachesTaken d (c ∷ cs)
     behind is_data first lines one more = record {
       next = more.next;
-      took = rw lines (taken_first d (with_line d is_data c) ((if is_data then codes "data" else codes "cache") ∷ shape_words c) (flat_map cache_lines cs) one ∙ more.took);
+      took = rw lines (taken_first d (with_line d is_data c) more.next ((if is_data then codes "data" else codes "cache") ∷ shape_words c) (flat_map cache_lines cs) one more.took);
       format = more.format;
       named = more.named;
       stands = more.stands;
@@ -245,16 +245,20 @@ first_head (c ∷ []) called h g =
     let p = within_most 1 1024 c.parts fit.parts in
     let b = leb-true c.backups 3 fit.backups in
     let n = leb-true c.near 10000 fit.near in
-    let one_head = taken_first (empty called) (at_first called) (codes "scenario" ∷ codes "1" ∷ []) (first_lines (c ∷ [])) (taken_meant (empty called) _ _ (head_meant 1)) in
-    let one_parts = taken_first (at_first called) (at_parts called c.parts) (setting_words (codes "parts") c.parts) (setting_words (codes "backups") c.backups ∷ setting_words (codes "near") c.near ∷ [])
-    (taken_meant (at_first called) _ _ (parts_meant c.parts (omega arith)) ∙ parts_step called c.parts fit.parts) in
-    let one_backups = taken_first (at_parts called c.parts) (at_backups called c.parts c.backups) (setting_words (codes "backups") c.backups) (setting_words (codes "near") c.near ∷ [])
-    (taken_meant (at_parts called c.parts) _ _ (backups_meant c.backups (omega arith)) ∙ backups_step called c.parts c.backups fit.backups) in
-    let one_near = taken_first (at_backups called c.parts c.backups) (at_near called c.parts c.backups c.near (one c.parts c.backups c.near)) (setting_words (codes "near") c.near) []
-    (taken_meant (at_backups called c.parts c.backups) _ _ (near_meant c.near (omega arith)) ∙ near_step called c.parts c.backups c.near fit.near) in
+    let last = at_near called c.parts c.backups c.near c in
+    let near : all_taken (at_backups called c.parts c.backups) (setting_words (codes "near") c.near ∷ []) ≡ Ok last =
+    taken_first (at_backups called c.parts c.backups) (at_near called c.parts c.backups c.near (one c.parts c.backups c.near)) last (setting_words (codes "near") c.near) []
+    (taken_meant (at_backups called c.parts c.backups) _ _ (near_meant c.near (omega arith)) ∙ near_step called c.parts c.backups c.near fit.near)
+    (ap (λ x. Ok (at_near called c.parts c.backups c.near x)) (same_one c name first plain)) in
+    let backups : all_taken (at_parts called c.parts) (setting_words (codes "backups") c.backups ∷ setting_words (codes "near") c.near ∷ []) ≡ Ok last =
+    taken_first (at_parts called c.parts) (at_backups called c.parts c.backups) last (setting_words (codes "backups") c.backups) (setting_words (codes "near") c.near ∷ [])
+    (taken_meant (at_parts called c.parts) _ _ (backups_meant c.backups (omega arith)) ∙ backups_step called c.parts c.backups fit.backups) near in
+    let settings : all_taken (at_first called) (first_lines (c ∷ [])) ≡ Ok last =
+    taken_first (at_first called) (at_parts called c.parts) last (setting_words (codes "parts") c.parts) (setting_words (codes "backups") c.backups ∷ setting_words (codes "near") c.near ∷ [])
+    (taken_meant (at_first called) _ _ (parts_meant c.parts (omega arith)) ∙ parts_step called c.parts fit.parts) backups in
     record {
-      next = at_near called c.parts c.backups c.near c;
-      took = one_head ∙ (one_parts ∙ (one_backups ∙ (one_near ∙ ap (λ x. Ok (at_near called c.parts c.backups c.near x)) (same_one c name first plain))));
+      next = last;
+      took = taken_first (empty called) (at_first called) last (codes "scenario" ∷ codes "1" ∷ []) (first_lines (c ∷ [])) (taken_meant (empty called) _ _ (head_meant 1)) settings;
       format = refl;
       named = refl;
       stands = refl;
@@ -276,7 +280,7 @@ second_head cs called order good distinct few sum =
     let more = caches_taken cs (at_second called) refl refl (λ e. refl) order good distinct few (omega (arith, sum)) in
     record {
       next = more.next;
-      took = taken_first (empty called) (at_second called) (codes "scenario" ∷ codes "2" ∷ []) (flat_map cache_lines cs) (taken_meant (empty called) _ _ (second_meant 1)) ∙ more.took;
+      took = taken_first (empty called) (at_second called) more.next (codes "scenario" ∷ codes "2" ∷ []) (flat_map cache_lines cs) (taken_meant (empty called) _ _ (second_meant 1)) more.took;
       format = more.format;
       named = more.named;
       stands = more.stands;
@@ -335,7 +339,7 @@ nodes_taken (m ∷ ms) d st within distinct few =
     let more = nodes_taken ms (with_node d m) refl parts.1 (rw (append_assoc d.members (m ∷ []) ms) distinct) (rw (append_assoc d.members (m ∷ []) ms) few) in
     record {
       next = more.next;
-      took = taken_first d (with_node d m) (member_words m) (map member_words ms) one ∙ more.took;
+      took = taken_first d (with_node d m) more.next (member_words m) (map member_words ms) one more.took;
       format = more.format;
       named = more.named;
       stands = more.stands;

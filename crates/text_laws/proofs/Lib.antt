@@ -1,6 +1,7 @@
 pub mod Again
 pub mod Caches
 pub mod Called
+mod Examples
 pub mod Heads
 pub mod Means
 pub mod Names

@@ -141,7 +141,7 @@ next_taken : (s : Scenario) (d e : Draft) (p : PlanStep) (plan : List PlanStep) 
     → e.plan ≡ d.plan ++ p ∷ [] → e.objects ≡ d.objects → e.sessions ≡ d.sessions → PlanTaken s e plan → PlanTaken s d (p ∷ plan)
 next_taken s d e p plan one format called nodes came objects sessions more = record {
   next = more.next;
-  took = taken_first d e (planned_words s p) (map (planned_words s) plan) one ∙ more.took;
+  took = taken_first d e more.next (planned_words s p) (map (planned_words s) plan) one more.took;
   format = more.format ∙ format;
   named = more.named ∙ called;
   stands = more.stands;

@@ -1,6 +1,6 @@
 -- The lines of a session give it, and those of all sessions all of them.
 use Rattle.std.proofs.Common.{◌≡◌, ◌+◌, ◌<◌, ◌≤◌, Bool, true, false, List, [], ◌∷◌, ◌++◌, length, refl, sym, ap, ◌∙◌, arith, length-append, append_assoc, append-nil}
-use Rattle.std.specs.Prelude.{◌&&◌, ◌||◌, not, nat_le, codes, decimal, filter_map, flat_map, map, Option, Some, None, Ok}
+use Rattle.std.specs.Prelude.{◌&&◌, ◌||◌, not, nat_le, codes, decimal, filter_map, flat_map, map, Option, Some, None, Result, Ok}
 use Rattle.std.specs.List.{cons_option, list_all}
 use Rattle.std.proofs.lemmas.Bool.{and_parts, lt-ltb, leb-true}
 use Rattle.ignite_types.specs.Good.{is_within, is_name, are_distinct, members, has_member, good_item, is_plain, open_behind, good_blocks, good_session, object_of, good_kinds, same_session_name, ObjectKind}
@@ -8,6 +8,7 @@ use Rattle.ignite_types.specs.declared.text.Key.{Key}
 use Rattle.ignite_types.specs.declared.scenario.Item.{Item}
 use Rattle.ignite_types.specs.declared.scenario.Scenario.{Scenario}
 use Rattle.ignite_types.specs.declared.scenario.Session.{Session}
+use Rattle.scen_text.specs.declared.cause.Cause.{Cause}
 use Rattle.scen_text.specs.declared.draft.Draft.{Draft}
 use Rattle.scen_text.specs.declared.limits.Kind.{Kind}
 use Rattle.scen_text.specs.declared.place.Place.TheVariants as place
@@ -56,6 +57,12 @@ record ItemsTaken (s : Scenario) (d : Draft) (xs : List Item) (left : List (Key 
   agree : list_all (agrees_with objects) left ≡ true
   kinds : good_kinds left ≡ true
 
+-- the draft behind a command and those that follow it
+one_more : (d : Draft) (now later : Bool) (known all : List (Key × Kind)) (x : Item) (xs : List Item) (r : Result Draft Cause) → r ≡ Ok (behind_items (behind_item d now known x) later all xs)
+    → r ≡ Ok (behind_items d later all (x ∷ xs))
+one_more d now later known all x xs r h =
+    h ∙ ap (λ commands. Ok (record d { place = script_place later; objects = all; session = record d.session { commands = commands } })) (append_assoc d.session.commands (x ∷ []) xs)
+
 items_taken : (s : Scenario) (xs : List Item) (d : Draft) (opened : Bool) (left : List (Key × ObjectKind)) → Whole s → ItemsFit s d opened xs left → ItemsTaken s d xs left
 items_taken s [] d opened left w f = record {
   opened = opened;
@@ -98,8 +105,8 @@ items_taken s (x ∷ xs) d opened left w f =
     record {
       opened = more.opened;
       objects = more.objects;
-      took = taken_first d (behind_item d (open_behind opened x) one.objects x) (item_words s x) (map (item_words s) xs) one.took
-          ∙ (more.took ∙ ap (λ commands. Ok (record d { place = script_place more.opened; objects = more.objects; session = record d.session { commands = commands } })) (append_assoc d.session.commands (x ∷ []) xs));
+      took = taken_first d (behind_item d (open_behind opened x) one.objects x) (behind_items d more.opened more.objects (x ∷ xs)) (item_words s x) (map (item_words s) xs) one.took
+          (one_more d (open_behind opened x) more.opened one.objects more.objects x xs (all_taken (behind_item d (open_behind opened x) one.objects x) (map (item_words s) xs)) more.took);
       agree = more.agree;
       kinds = more.kinds;
     }
@@ -171,12 +178,12 @@ session_taken s d x left w k f =
       kinds = f.kinds;
     }) in
     let after = behind_items (begun d x) items.opened items.objects x.commands in
+    let whole = behind_session d items.objects x in
     let last = taken_meant after _ _ (end_meant after.format) ∙ end_step d items.opened items.objects x in
     record {
       objects = items.objects;
-      took = taken_first d (begun d x) (codes "session" ∷ x.name ∷ decimal x.node.0 ∷ []) (map (item_words s) x.commands ++ ((codes "end" ∷ []) ∷ [])) one
-          ∙ (taken_both (map (item_words s) x.commands) ((codes "end" ∷ []) ∷ []) (begun d x) after items.took
-          ∙ taken_first after (behind_session d items.objects x) (codes "end" ∷ []) [] last);
+      took = taken_first d (begun d x) whole (codes "session" ∷ x.name ∷ decimal x.node.0 ∷ []) (map (item_words s) x.commands ++ ((codes "end" ∷ []) ∷ [])) one
+          (taken_both (map (item_words s) x.commands) ((codes "end" ∷ []) ∷ []) (begun d x) after whole items.took (taken_first after whole whole (codes "end" ∷ []) [] last refl));
       agree = items.agree;
       kinds = items.kinds;
     }
@@ -247,7 +254,7 @@ sessions_taken s (x ∷ xs) d w k f =
     }) in
     record {
       next = more.next;
-      took = taken_both (session_lines s x) (flat_map (session_lines s) xs) d (behind_session d one.objects x) one.took ∙ more.took;
+      took = taken_both (session_lines s x) (flat_map (session_lines s) xs) d (behind_session d one.objects x) more.next one.took more.took;
       format = more.format;
       stands = more.stands;
       caches = more.caches;

@@ -1,5 +1,5 @@
 -- Lines of words that are taken one after the other.
-use Rattle.std.proofs.Common.{◌≡◌, ℕ, ◌+◌, ◌≤◌, Bool, true, false, List, [], ◌∷◌, ◌++◌, length, refl, ap, subst}
+use Rattle.std.proofs.Common.{◌≡◌, ℕ, ◌+◌, ◌≤◌, Bool, true, false, List, [], ◌∷◌, ◌++◌, length, refl, sym, subst}
 use Rattle.std.specs.Prelude.{◌&&◌, nat_lt, map, Result, Ok, Err, if◌then◌else◌}
 use Rattle.std.specs.List.{list_all}
 use Rattle.std.proofs.lemmas.Bool.{and_parts, cond-true, le-ltb}
@@ -24,15 +24,16 @@ abbrev pub all_taken : Draft → List (List (List ℕ)) → Result Draft Cause
 all_taken d [] = Ok d
 all_taken d (ws ∷ more) = taken d ws >>= λ next. all_taken next more
 
-pub taken_first : (d e : Draft) (ws : List (List ℕ)) (more : List (List (List ℕ))) → taken d ws ≡ Ok e → all_taken d (ws ∷ more) ≡ all_taken e more
-taken_first d e ws more h = rw h refl
+-- one line, and then the others
+pub taken_first : (d e last : Draft) (ws : List (List ℕ)) (more : List (List (List ℕ))) → taken d ws ≡ Ok e → all_taken e more ≡ Ok last → all_taken d (ws ∷ more) ≡ Ok last
+taken_first d e last ws more h k = rw h k
 
-pub taken_both : (xs ys : List (List (List ℕ))) (d e : Draft) → all_taken d xs ≡ Ok e → all_taken d (xs ++ ys) ≡ all_taken e ys
-taken_both [] ys d e h = let same : d ≡ e = cc in ap (λ x. all_taken x ys) same
-taken_both (ws ∷ xs) ys d e h = by (taken d ws) h (λ x. taken_both xs ys x e)
+-- some lines, and then others
+pub taken_both : (xs ys : List (List (List ℕ))) (d e last : Draft) → all_taken d xs ≡ Ok e → all_taken e ys ≡ Ok last → all_taken d (xs ++ ys) ≡ Ok last
+taken_both [] ys d e last h k = let same : d ≡ e = cc in subst (λ x. all_taken x ys ≡ Ok last) (sym same) k
+taken_both (ws ∷ xs) ys d e last h k = by (taken d ws) h (λ x g. taken_both xs ys x e last g k)
   where
-    by : (r : Result Draft Cause) → (r >>= λ next. all_taken next xs) ≡ Ok e → ((x : Draft) → all_taken x xs ≡ Ok e → all_taken x (xs ++ ys) ≡ all_taken e ys)
-        → (r >>= λ next. all_taken next (xs ++ ys)) ≡ all_taken e ys
+    by : (r : Result Draft Cause) → (r >>= λ next. all_taken next xs) ≡ Ok e → ((x : Draft) → all_taken x xs ≡ Ok e → all_taken x (xs ++ ys) ≡ Ok last) → (r >>= λ next. all_taken next (xs ++ ys)) ≡ Ok last
     by (Ok x) h f = f x h
     by (Err cause) h f = cc
 

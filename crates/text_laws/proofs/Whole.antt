@@ -285,9 +285,9 @@ reads_back s h longs few =
       agree = subst (λ xs. list_all (agrees_with xs) (filter_map object_of (commands_of s.sessions)) ≡ true) (sym no_objects) (none_known (filter_map object_of (commands_of s.sessions)));
       kinds = g.kinds;
     }) in
-    let took = taken_both (head_lines s) (map member_words s.nodes ++ (map (planned_words s) s.plan ++ flat_map (session_lines s) s.sessions)) (empty called) heads.next heads.took
-    ∙ (taken_both (map member_words s.nodes) (map (planned_words s) s.plan ++ flat_map (session_lines s) s.sessions) heads.next nodes.next nodes.took
-    ∙ (taken_both (map (planned_words s) s.plan) (flat_map (session_lines s) s.sessions) nodes.next plan.next plan.took ∙ sessions.took)) in
+    let after_nodes = taken_both (map (planned_words s) s.plan) (flat_map (session_lines s) s.sessions) nodes.next plan.next sessions.next plan.took sessions.took in
+    let after_head = taken_both (map member_words s.nodes) (map (planned_words s) s.plan ++ flat_map (session_lines s) s.sessions) heads.next nodes.next sessions.next nodes.took after_nodes in
+    let took = taken_both (head_lines s) (map member_words s.nodes ++ (map (planned_words s) s.plan ++ flat_map (session_lines s) s.sessions)) (empty called) heads.next sessions.next heads.took after_head in
     let done = last s sessions.next g (sessions.format ∙ (plan.format ∙ (nodes.format ∙ heads.format))) sessions.stands (sessions.caches ∙ plan.caches)
     (sessions.nodes ∙ (plan.nodes ∙ (nodes.nodes ∙ ap (λ ms. ms ++ s.nodes) heads.nodes)))
     (sessions.plan ∙ (plan.plan ∙ ap (λ came. came ++ s.plan) (nodes.plan ∙ heads.plan)))
