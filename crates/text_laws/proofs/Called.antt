@@ -17,7 +17,7 @@ use Rattle.scen_text.specs.declared.line.Line.{Line}
 use Rattle.scen_text.specs.Known.{is_named}
 use Rattle.scen_text.specs.Meaning.{line_of}
 use Rattle.scen_text.specs.Reading.{named_by, named_in}
-use Rattle.text_laws.specs.Lines.{member_words, planned_words}
+use Rattle.text_laws.proofs.Lines.{member_words, planned_words}
 use Rattle.text_laws.proofs.Means.{Meant, member_meant, join_meant}
 use Rattle.text_laws.proofs.Plans.{joins_of}
 use Rattle.text_laws.proofs.Split.{spaced, line_of-spaced}

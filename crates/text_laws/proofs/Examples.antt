@@ -14,7 +14,7 @@ use Rattle.ignite_types.specs.declared.scenario.Step.{Step}
 use Rattle.ignite_types.specs.declared.scenario.Step.TheVariants as step
 use Rattle.scen_text.specs.Printing.{scenario_text}
 use Rattle.scen_text.specs.Reading.{scenario_of}
-use Rattle.text_laws.specs.Lines.{all_lines}
+use Rattle.text_laws.proofs.Lines.{all_lines}
 use Rattle.text_laws.specs.RoundTrip.{has_longs}
 use Rattle.text_laws.proofs.Split.{text_of}
 use Rattle.text_laws.proofs.Whole.{reads_back}

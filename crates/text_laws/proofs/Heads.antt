@@ -17,7 +17,7 @@ use Rattle.scen_text.specs.declared.place.Place.TheVariants as place
 use Rattle.scen_text.specs.Drafts.{empty, with_setting, with_cache, with_member}
 use Rattle.scen_text.specs.Known.{has_cache, cache_line_place}
 use Rattle.scen_text.specs.Places.{rank, stands}
-use Rattle.text_laws.specs.Lines.{shape_words, cache_lines, setting_words, first_lines, member_words}
+use Rattle.text_laws.proofs.Lines.{shape_words, cache_lines, setting_words, first_lines, member_words}
 use Rattle.text_laws.proofs.Caches.{new_one}
 use Rattle.text_laws.proofs.Means.{Meant, cache_fits, words_of, head_meant, second_meant, parts_meant, backups_meant, near_meant, cache_meant, data_meant, member_meant, within_most}
 use Rattle.text_laws.proofs.Taken.{taken, all_taken, taken_first, taken_meant}

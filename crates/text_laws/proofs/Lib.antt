@@ -3,6 +3,7 @@ pub mod Caches
 pub mod Called
 mod Examples
 pub mod Heads
+pub mod Lines
 pub mod Means
 pub mod Names
 pub mod Numbers

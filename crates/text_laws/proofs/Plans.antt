@@ -19,7 +19,7 @@ use Rattle.scen_text.specs.declared.place.Place.TheVariants as place
 use Rattle.scen_text.specs.Drafts.{planned, with_start, with_stop}
 use Rattle.scen_text.specs.Known.{has_cache, names_data, is_named, is_stopped, rises}
 use Rattle.scen_text.specs.Places.{stands}
-use Rattle.text_laws.specs.Lines.{shape_words, planned_words}
+use Rattle.text_laws.proofs.Lines.{shape_words, planned_words}
 use Rattle.text_laws.proofs.Caches.{at_all, get_front, get_at, get_within, front_of, new_one, distinct_front, place_is, none_other}
 use Rattle.text_laws.proofs.Heads.{stands_later}
 use Rattle.text_laws.proofs.Means.{Meant, cache_fits, words_of, in_second, join_meant, lose_meant, hold_meant, release_meant, start_meant, stop_meant}

@@ -31,7 +31,7 @@ use Rattle.scen_text.specs.Known.{cache_place, same_object, is_other, has_object
 use Rattle.scen_text.specs.Limits.{bare_fits, kind_of, keyed}
 use Rattle.scen_text.specs.Places.{in_script, is_outside, place_after}
 use Rattle.scen_text.proofs.GoodKept.{kind_seen}
-use Rattle.text_laws.specs.Lines.{item_words}
+use Rattle.text_laws.proofs.Lines.{item_words}
 use Rattle.text_laws.specs.RoundTrip.{has_long}
 use Rattle.text_laws.proofs.Caches.{at_all, place_is, none_other}
 use Rattle.text_laws.proofs.Means.{Meant, cache_fits, KeyMeant, ObjectMeant, begin_meant, commit_meant, rollback_meant, sleep_meant, get_meant, remove_meant, put_meant, add_meant, incr_meant, next_meant, offer_meant, poll_meant}

@@ -15,7 +15,7 @@ use Rattle.scen_text.specs.declared.place.Place.TheVariants as place
 use Rattle.scen_text.specs.Drafts.{no_session, with_session, with_end}
 use Rattle.scen_text.specs.Known.{is_named, has_session}
 use Rattle.scen_text.specs.Places.{stands}
-use Rattle.text_laws.specs.Lines.{item_words, session_lines}
+use Rattle.text_laws.proofs.Lines.{item_words, session_lines}
 use Rattle.text_laws.specs.RoundTrip.{has_long}
 use Rattle.text_laws.proofs.Caches.{new_one}
 use Rattle.text_laws.proofs.Means.{session_meant, end_meant}

@@ -13,7 +13,7 @@ use Rattle.ignite_types.specs.declared.scenario.Session.{Session}
 use Rattle.ignite_types.specs.declared.scenario.Step.{Step}
 use Rattle.ignite_types.specs.declared.scenario.Step.TheVariants as step
 use Rattle.scen_text.specs.Printing.{shape_text, setting_text, first_text, cache_line_text, head_text, member_text, started_text, stopped_text, step_text, planned_text, item_line_text, session_text, scenario_text}
-use Rattle.text_laws.specs.Lines.{shape_words, cache_lines, first_lines, head_lines, member_words, started_words, stopped_words, step_words, planned_words, command_words, item_words, session_lines, all_lines}
+use Rattle.text_laws.proofs.Lines.{shape_words, cache_lines, first_lines, head_lines, member_words, started_words, stopped_words, step_words, planned_words, command_words, item_words, session_lines, all_lines}
 use Rattle.text_laws.proofs.Split.{spaced, text_of}
 
 text_of-append : (xs ys : List (List (List ℕ))) → text_of (xs ++ ys) ≡ text_of xs ++ text_of ys

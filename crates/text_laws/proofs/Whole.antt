@@ -3,7 +3,7 @@
 -- The steps, from the bottom:
 -- Split: a text of lines of words falls into these lines, and each line into its words.
 -- Numbers, Names: each number, name, object, key and value that is printed is read as itself.
--- Texts: the canonical text is the text of certain lines of words (specs/Lines).
+-- Texts: the canonical text is the text of certain lines of words (Lines).
 -- Means: each of these lines means what it was printed from.
 -- Taken: the lines are taken one after the other, by their meanings.
 -- Caches: what distinct names say of the caches.
@@ -28,7 +28,7 @@ use Rattle.scen_text.specs.Known.{is_named, has_server, has_line}
 use Rattle.scen_text.specs.Places as places
 use Rattle.scen_text.specs.Places.{stands}
 use Rattle.scen_text.specs.Reading.{named_in, scenario_of}
-use Rattle.text_laws.specs.Lines.{head_lines, member_words, planned_words, session_lines, all_lines}
+use Rattle.text_laws.proofs.Lines.{head_lines, member_words, planned_words, session_lines, all_lines}
 use Rattle.text_laws.specs.RoundTrip.{ReadsBack}
 use Rattle.text_laws.proofs.Caches.{distinct_front}
 use Rattle.text_laws.proofs.Called.{names, names-append, nodes_named, joins_named}

@@ -9,7 +9,7 @@ ghost use Rattle.text_laws.specs.RoundTrip.{ReadsBack};
 mod longs;
 
 use ignite_types::{Mem, NoMemory, Scenario};
-use longs::integers_are_long;
+pub use longs::integers_are_long;
 use scen_text::{ReadFault, TEXT_BYTES, print_scenario, read_scenario};
 use std::alloc::Global;
 
