@@ -1,7 +1,7 @@
 //! A near cache.
 
-ghost use Rattle.std.specs.Prelude.{◌≡◌, ◌<◌, [], IfOk, OnErr, OnOk, Some};
-ghost use Rattle.std.specs.Map.{remove_entry, set_value};
+ghost use Rattle.std.specs.Prelude.{◌≡◌, ◌<◌, [], IfOk, OnErr, OnOk};
+ghost use Rattle.std.specs.Map.{set_value};
 ghost use Rattle.std.specs.NonZero.{non_zero_usize_get};
 ghost use Rattle.base_words.specs.NearEntries.{near_put, near_updated};
 ghost use Rattle.ignite_types.specs.Names.{same_key};
@@ -74,7 +74,8 @@ fn listed(alloc: Global, entries: &LruCache<Key, Kept>) -> Mem<Vec<(Key, Kept)>>
 fn copied(alloc: Global, entries: &LruCache<Key, Kept>) -> Mem<LruCache<Key, Kept>>
     ensures { IfOk result (λ copy. copy ≡ entries.now) }
 {
-    let _len = entries.len();
+    // the length is asked for its clause that the keys are distinct
+    let _count = entries.len();
     let mut left = listed(alloc, entries)?;
     let mut copy = LruCache::sparse(alloc, entries.cap())?;
     while let Some((key, kept)) = left.pop() {
@@ -107,7 +108,8 @@ impl Near {
         ensures found { result ≡ hit self.old.entries key.now }
         ensures front { self.new ≡ record self.old { entries = after_hit self.old.entries key.now } }
     {
-        let _len = self.entries.len();
+        // the length is asked for its clause that the keys are distinct
+        let _count = self.entries.len();
         let kept = *self.entries.get(key)?;
         Some((kept.value, kept.ver))
     }
@@ -119,7 +121,8 @@ impl Near {
             ≡ record self.old { entries = near_put self.old.size self.old.entries (record { key = key; value = value; ver = ver }) }) }
         ensures err { OnErr result (self.new ≡ self.old) }
     {
-        let _len = self.entries.len();
+        // the length is asked for its clause that the keys are distinct
+        let _count = self.entries.len();
         self.entries.put(key, Kept { value, ver })?;
         Ok(())
     }
@@ -129,7 +132,8 @@ impl Near {
     pub fn update(&mut self, key: &Key, new: Option<Value>, ver: CacheVersion)
         ensures { self.new ≡ record self.old { entries = near_updated self.old.entries key.now new ver } }
     {
-        let _len = self.entries.len();
+        // the length is asked for its clause that the keys are distinct
+        let _count = self.entries.len();
         if !has_older(&self.entries, key, ver) {
             return;
         }

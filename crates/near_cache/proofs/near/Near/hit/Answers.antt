@@ -13,7 +13,7 @@ pub returns-in_err-kept-clause-front : goal.returns-in_err-kept-clause-front
 returns-in_err-kept-clause-front c =
     let sized : NearCache → SizedNear = λ near. record { size = c.self.inside.entries.cap; entries = near } in
     rw (c.get.follows.holds-at-none, ← c.self.view_is)
-    (ap sized (sym (hit_front c.self.inside.entries c.args.key.now c.len-len.ensures.valid)))
+    (ap sized (sym (hit_front c.self.inside.entries c.args.key.now c.len-count.ensures.valid)))
 
 pub returns-clause-found : goal.returns-clause-found
 returns-clause-found c =
@@ -24,4 +24,4 @@ pub returns-clause-front : goal.returns-clause-front
 returns-clause-front c =
     let sized : NearCache → SizedNear = λ near. record { size = c.self.inside.entries.cap; entries = near } in
     rw (c.get.follows.holds-at-none, ← c.self.view_is)
-    (ap sized (sym (hit_front c.self.inside.entries c.args.key.now c.len-len.ensures.valid)))
+    (ap sized (sym (hit_front c.self.inside.entries c.args.key.now c.len-count.ensures.valid)))
