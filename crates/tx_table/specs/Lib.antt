@@ -1,0 +1,4 @@
+pub mod Changed
+pub mod Touches
+pub mod Transactions
+pub mod Takes
