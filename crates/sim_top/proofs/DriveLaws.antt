@@ -1,5 +1,5 @@
 -- What a run in work keeps: each event that the schedule picked adds a step of the machine.
-use Rattle.std.proofs.Common.{◌≡◌, ◌≢◌, ℕ, zero, suc, Bool, true, false, List, [], ◌∷◌, ◌++◌, Option, Some, None, IfNone, IsTrue, slice_get, length, ◌+◌, ◌-◌, ◌^◌, ◌<◌, ◌≤◌, ◌%◌, ◌&&◌, length-append, min, refl, sym, ◌∙◌, ap, arith, subst, inl, add-one, add_assoc}
+use Rattle.std.proofs.Common.{◌≡◌, ℕ, zero, suc, Bool, true, false, List, [], ◌∷◌, ◌++◌, Option, Some, None, IfNone, IsTrue, slice_get, length, ◌+◌, ◌<◌, ◌≤◌, ◌&&◌, length-append, refl, sym, ◌∙◌, ap, arith, subst, inl}
 use Rattle.std.specs.List.{list_all}
 use Rattle.std.proofs.lemmas.Option.{slice_get-get_or}
 use Rattle.ignite_types.specs.declared.journal.Event.{Event}
@@ -7,11 +7,10 @@ use Rattle.ignite_types.specs.declared.journal.Group.{Group}
 use Rattle.ignite_types.specs.declared.scenario.Scenario.{Scenario}
 use Rattle.rand_pcg.specs.Lcg.{Lcg}
 use Rattle.sched_seed.specs.Picks.{after_pick, next_pick, pick, picker_at}
-use Rattle.sched_seed.specs.Words.{word_of}
 use Rattle.sched_seed.proofs.PickLemmas.{picks_at}
 use Rattle.tx_model.specs.Opening.{opening}
 use Rattle.tx_model.specs.Runs.{after, IsPicked, IsStep, AreSteps, ArePicked}
-use Rattle.tx_model.specs.World.{World, enabled, outcome, possible}
+use Rattle.tx_model.specs.World.{World, outcome, possible}
 use Rattle.world_core.specs.Run.{Run, begun, stepped, KeepsPast}
 use Rattle.sim_top.specs.Drive.{PastFollows, Follows, Advances, AllPicked, Moves, counted, picks}
 use Rattle.sim_top.proofs.WorldLaws.{all_possible, enabled_of, may_be, no_memory_of, whole_after}

@@ -1,15 +1,15 @@
 -- A scenario that the words ask to make up has a size that may be made up.
-use Rattle.std.proofs.Common.{◌≡◌, ◌≤◌, ◌&&◌, ℕ, Bool, true, false, List, [], Option, Some, None, if◌then◌else◌, nat_le, refl, sym, ap, subst, ◌∙◌, arith}
+use Rattle.std.proofs.Common.{◌≡◌, ◌≤◌, ◌&&◌, ℕ, Bool, true, false, List, [], Option, Some, None, if◌then◌else◌, nat_le, refl, ap, subst, ◌∙◌, arith}
 use Rattle.std.specs.Option.{option_map}
 use Rattle.std.specs.Str.Parse.{digits_value}
 use Rattle.std.proofs.lemmas.Bool.{leb-true, and_parts}
 use Rattle.command_words.specs.Line.{agree, asked_by, is_number, line, made, number, number_or}
 use Rattle.command_words.specs.Line as words
-use Rattle.command_words.specs.Options.{Given, Text, ◌>>=◌, options}
+use Rattle.command_words.specs.Options as name
+use Rattle.command_words.specs.Options.{Given, Text, ◌>>=◌, options, stands, value_of}
 use Rattle.command_words.specs.declared.Make.{Make}
 use Rattle.command_words.specs.declared.SimWords.{SimWords}
-use Rattle.sim_top.specs.Asked.{HasRange, asked, form_of, made_or, options_from, read_form}
-use Rattle.sim_top.specs.declared.options.Form.{Form}
+use Rattle.sim_top.specs.Asked.{HasRange, asked, made_or, options_from, read_form}
 use Rattle.sim_top.specs.declared.options.Options.{Options}
 
 -- what a choice between something and nothing tells that came to something
@@ -58,7 +58,8 @@ asked_range seed steps make txs trace json w m h is =
     made_range make txs m (making.1 ∙ ap Some same)
 
 given_range : (given : Given) (w : SimWords) (m : Make) → asked_by given ≡ Some w → w.make ≡ Some m → InRange m
-given_range given w m h is = asked_range _ _ _ _ _ _ w m h is
+given_range given w m h is =
+    asked_range (value_of name.seed given) (value_of name.steps given) (value_of name.make given) (value_of name.txs given) (stands name.trace given) (stands name.json given) w m h is
 
 line_range : (texts : List Text) (w : SimWords) (m : Make) → line texts ≡ Some w → w.make ≡ Some m → InRange m
 line_range texts w m h is = let given = bind_some (options [] None texts) asked_by w h in given_range given.0 w m given.2 is

@@ -1,5 +1,5 @@
 -- What a call comes to, put together from its parts, status by status.
-use Rattle.std.proofs.Common.{◌≡◌, ◌≢◌, ℕ, ◌<◌, true, false, List, [], length, Option, Some, None, Ok, Err, IfSome, inl, inr, refl, sym, ◌∙◌, subst}
+use Rattle.std.proofs.Common.{◌≡◌, ◌≢◌, ℕ, ◌<◌, true, false, List, [], length, Option, Some, None, Ok, Err, IfSome, inl, inr, refl, subst}
 use Rattle.ignite_types.specs.declared.journal.End.{End}
 use Rattle.ignite_types.specs.declared.journal.End.TheVariants as end
 use Rattle.ignite_types.specs.declared.journal.Journal.{Journal}
@@ -7,14 +7,12 @@ use Rattle.ignite_types.specs.declared.journal.Status.{Status}
 use Rattle.ignite_types.specs.declared.journal.Status.TheVariants as status
 use Rattle.ignite_types.specs.declared.scenario.Scenario.{Scenario}
 use Rattle.std.specs.Io.KnownBytes.{append_known, IsAtEnd}
-use Rattle.host_io.specs.Faults.{Faulted}
-use Rattle.host_io.specs.Sink.{AppendsPart}
 use Rattle.scen_text.specs.Reading.{scenario_of}
 use Rattle.scen_text.specs.Causes.{refusal_text}
 use Rattle.scen_text.specs.declared.cause.Cause.{Cause}
 use Rattle.scen_text.specs.declared.cause.Cause.TheVariants.{TooLong}
 use Rattle.std.proofs.lemmas.Bool.{lt-ltb}
-use Rattle.sim_top.specs.Sim.{Asked, IsRefused, LineSays, ReadSays, RefusalSays, Runs, RunSays, OutOfMemory, Follow, Means, Comes, Ends, Written, CutOff, Reading, Tells, Writing, WasRead, SaysIn, MadeUp, usage_text}
+use Rattle.sim_top.specs.Sim.{IsRefused, LineSays, ReadSays, RefusalSays, Runs, RunSays, OutOfMemory, Follow, Means, Comes, Ends, Reading, Tells, Writing, SaysIn, usage_text}
 use Rattle.sim_top.specs.Asked.{asked}
 use Rattle.sim_top.specs.Told.{told_text}
 use Rattle.sim_top.specs.declared.options.Form.{Form}

@@ -1,5 +1,5 @@
 -- Each possible event may come in a world in which no memory was wanting, and leaves one.
-use Rattle.std.proofs.Common.{◌≡◌, ℕ, Bool, true, false, List, [], ◌∷◌, ◌++◌, Option, Some, None, filter, map, cond, not, ◌&&◌, ◌||◌, refl, sym, ◌∙◌, ap}
+use Rattle.std.proofs.Common.{◌≡◌, ℕ, Bool, true, false, List, [], ◌∷◌, ◌++◌, Option, Some, None, map, cond, not, ◌&&◌, ◌||◌, refl, ◌∙◌}
 use Rattle.std.specs.List.{list_all}
 use Rattle.std.specs.Prelude.{if◌then◌else◌}
 use Rattle.std.proofs.lemmas.List.Folds.{list_all-append}
@@ -19,7 +19,7 @@ use Rattle.ignite_types.specs.declared.scenario.Step.{Step}
 use Rattle.ignite_types.specs.declared.scenario.Step.TheVariants as step
 use Rattle.ignite_types.specs.declared.scenario.Member.{Member}
 use Rattle.tx_model.specs.Runs.{is_memory}
-use Rattle.tx_model.specs.World.{Outcome, Part, World, acted, answers_at, calls_at, can_be, delivers, does_step, enabled, expires_at, holds, holds_link, ids, idle, inbox_on, inboxes_emptied, is_quiet, is_tick, joins, least_moment, live_home, live_place, loses, lost, node_events, open_txs, outcome, part_on, place_of, plan_events, plans, possible, possible_acts, possible_of, reaches, sees, sees_at, sends_at, sessions, shut_at, switches_at, takes_at, takes_from, tick_events, ticks, unless_broken, unlinked, with_directory}
+use Rattle.tx_model.specs.World.{Outcome, Part, World, acted, answers_at, calls_at, can_be, delivers, does_step, enabled, expires_at, holds_link, ids, idle, inbox_on, inboxes_emptied, is_quiet, is_tick, joins, least_moment, live_home, live_place, loses, node_events, open_txs, outcome, part_on, place_of, plan_events, plans, possible, possible_acts, possible_of, reaches, sees, sees_at, sends_at, sessions, shut_at, switches_at, takes_at, takes_from, tick_events, ticks, unless_broken, with_directory}
 
 -- Which events are possible.
 

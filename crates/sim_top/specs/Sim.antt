@@ -1,7 +1,6 @@
 -- What a call of the simulator comes to: its status, its journal, and the text that is to be written.
 use Rattle.std.specs.Prelude.{◌≡◌, ◌≢◌, ◌⊎◌, ℕ, List, [], Option, Some, None, Ok, Err, IfSome, length, codes, ◌++◌, ◌∷◌}
 use Rattle.command_words.specs.declared.Make.{Make}
-use Rattle.ignite_types.specs.declared.journal.End.{End}
 use Rattle.ignite_types.specs.declared.journal.End.TheVariants as end
 use Rattle.ignite_types.specs.declared.journal.Journal.{Journal}
 use Rattle.ignite_types.specs.declared.scenario.Scenario.{Scenario}

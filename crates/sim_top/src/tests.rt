@@ -106,6 +106,25 @@ fn texts_that_are_refused(rt: HostRuntime) -> Result<(), Fail> {
     Ok(())
 }
 
+/// The history of the first run as JSON.
+const FIRST_JSON: &str =
+    "{\"history\":[{\"reads\":[],\"top\":\"1.0\",\"tx\":\"A#1\",\"writes\":[[\"a\",\"1\"]]},{\"reads\":[[\"a\",\"1\"]],\"top\":\"1.0\",\"tx\":\"A#2\",\"writes\":[]}],\"map\":[[\"a\",\"1\"]]}\n";
+
+#[test]
+fn other_forms_of_a_run(rt: HostRuntime) -> Result<(), Fail> {
+    let (status, sink) = told(rt.alloc(), &["--json"])?;
+    assert_eq!(rt; status, Status::AllEnded);
+    assert_eq!(rt; sink.bytes(), FIRST_JSON.as_bytes());
+    let (status, sink) = told(rt.alloc(), &["--make=1", "--txs", "1", "--steps", "1"])?;
+    assert_eq!(rt; status, Status::StepLimit);
+    assert_eq!(rt; sink.bytes(), MADE_SUMMARY.as_bytes());
+    Ok(())
+}
+
+/// Of a run that ends with its first event.
+const MADE_SUMMARY: &str =
+    "made sessions 1 txs 1 seed 0\ncommitted 0\nfailed 0\ntotal 0\ntop 1.0\nend 4\n";
+
 #[test]
 fn words_of_the_command_line(rt: HostRuntime) -> Result<(), Fail> {
     let (status, sink) = told(rt.alloc(), &["--steps=2", "--trace"])?;

@@ -1,6 +1,4 @@
 use Rattle.std.proofs.Common.{◌≡◌, true, ◌∙◌}
-use Rattle.sched_seed.specs.Picks.{after_pick}
-use Rattle.sim_top.specs.Drive.{Advances}
 use Rattle.sim_top.proofs.DriveLaws.{moved, follows_next, next_picker, one_longer, same_scenario}
 use Rattle.sim_top.proofs.drive.drive.Goals as goal
 
