@@ -237,7 +237,7 @@ fn made_said(alloc: Global, options: Options, make: Make) -> Said
     ensures { RunSays options (generated options.seed make.sessions make.txs) result.status result.journal result.text.items }
 {
     match make_scenario(alloc, options.seed, make.sessions, make.txs) {
-        Ok(scenario) => run(alloc, &scenario, options),
+        Ok(made) => run(alloc, &made, options),
         Err(NoMemory) => out_of_memory(alloc, no_run(alloc)),
     }
 }
