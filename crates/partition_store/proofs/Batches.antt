@@ -4,7 +4,6 @@ use Rattle.std.proofs.lemmas.Bool.Decides.{nat_tests}
 use Rattle.std.proofs.lemmas.List.{length-take}
 use Rattle.base_words.specs.Copies.{Copy, batch_of, entries_of, is_after, is_last_batch, stored_entry, values_after}
 use Rattle.base_words.specs.declared.copies.Entry.{Entry}
-use Rattle.ignite_types.specs.declared.message.Stored.{Stored}
 use Rattle.ignite_types.specs.declared.text.Key.{Key}
 
 -- the values after a key, as entries

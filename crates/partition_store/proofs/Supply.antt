@@ -1,5 +1,5 @@
 -- Supplied entries that are taken one after another.
-use Rattle.std.proofs.Common.{◌≡◌, ℕ, Bool, true, false, zero, suc, ◌<◌, ◌+◌, List, [], ◌∷◌, length, take, get_or, Option, Some, None, slice_get, refl, ◌∙◌, arith, add-one}
+use Rattle.std.proofs.Common.{◌≡◌, ℕ, Bool, true, false, zero, suc, ◌<◌, ◌+◌, List, [], ◌∷◌, length, take, get_or, Some, ◌∙◌, arith, add-one}
 use Rattle.base_words.specs.Copies.{Copy, applied_to, kept, supplied, supplied_over}
 use Rattle.base_words.specs.Orders.{is_lower}
 use Rattle.base_words.specs.declared.copies.Entry.{Entry}
