@@ -31,14 +31,14 @@ world c recs =
     let left : Run = record (entered r c.in-Some.place c.join.new.self c.append_join.new.self) { now = (planned (entered r c.in-Some.place c.join.new.self c.append_join.new.self).now c.append_join.new.self None recs).world } in
     subst (λ (s : Run). left ≡ record s { now = (joins s.now c.args.member s.now.directory c.args.place (part_on s.now c.args.place)).world }) c.self.view_is
     (joins_world r c.args.member c.in-Some.place c.index_mut.result.now c.join.new.self c.append_join.new.self recs c.args.place c.in-Some.is (there c)
-    (c.in_ok-recs.ensures.part ∙ ap (λ (a : Acted). record { node = a.state; life = life.Alive }) (same_act c)) c.in_ok-append_join.ensures)
+    (c.in_ok-recs.ensures.part ∙ ap (λ (a : Acted). record { node = a.state; life = life.Alive }) (same_act c)) c.in_ok-append_join.ensures.ok)
 
 recs_of : (c : goal.After-pass-2) → (planned (entered (run c) c.in-Some.place c.join.new.self c.append_join.new.self).now c.append_join.new.self None c.in_ok-recs.recs).recs ≡ (joins c.args.self.now.now c.args.member c.args.self.now.now.directory c.args.place (part_on c.args.self.now.now c.args.place)).recs
 recs_of c =
     let r : Run = run c in
     subst (λ (s : Run). (planned (entered r c.in-Some.place c.join.new.self c.append_join.new.self).now c.append_join.new.self None c.in_ok-recs.recs).recs ≡ (joins s.now c.args.member s.now.directory c.args.place (part_on s.now c.args.place)).recs) c.self.view_is
     (joins_recs r c.args.member c.in-Some.place c.index_mut.result.now c.join.new.self c.append_join.new.self c.in_ok-recs.recs c.args.place c.in-Some.is (there c)
-    (c.in_ok-recs.ensures.recs ∙ ap (λ (a : Acted). a.recs) (same_act c)) c.in_ok-append_join.ensures)
+    (c.in_ok-recs.ensures.recs ∙ ap (λ (a : Acted). a.recs) (same_act c)) c.in_ok-append_join.ensures.ok)
 
 pub returns-clause-world : goal.returns-clause-world
 returns-clause-world c = subst (λ (x : Run). OnOk c.pass-2.result (c.pass-2.new.self ≡ x)) (world c c.in_ok-recs.recs) c.pass-2.ensures.world
