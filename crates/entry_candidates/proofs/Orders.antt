@@ -1,0 +1,49 @@
+-- The orders of transactions and keys, and the test for the same transaction.
+use Rattle.std.proofs.Common.{false, inl, inr, refl, true, ◌≡◌, ◌≢◌, ◌⊎◌, arith}
+use Rattle.std.specs.Cmp.{IsTotalOrder, on_total, then_total}
+use Rattle.std.specs.declared.cmp.Ordering.{Ordering}
+use Rattle.std.specs.declared.cmp.Ordering.TheVariants.{Less, Equal, Greater}
+use Rattle.std.proofs.lemmas.Bool.Decides.{nat_tests}
+use Rattle.std.proofs.lemmas.Cmp.{nat_cmp_total, nat_list_cmp_total}
+use Rattle.hash_table.specs.SameKeys.{exact_txs}
+use Rattle.ignite_types.specs.Names.{key_cmp, same_tx, tx_cmp}
+use Rattle.ignite_types.specs.declared.names.TxId.{TxId}
+use Rattle.ignite_types.specs.declared.text.Key.{Key}
+
+pub tx_total : IsTotalOrder tx_cmp
+tx_total =
+    then_total (on_total (λ (t : TxId). t.node.0) nat_cmp_total)
+    (then_total (on_total (λ (t : TxId). t.session) nat_cmp_total) (on_total (λ (t : TxId). t.number) nat_cmp_total))
+
+pub key_total : IsTotalOrder key_cmp
+key_total = then_total (on_total (λ (k : Key). k.cache) nat_cmp_total) (on_total (λ (k : Key). k.text) nat_list_cmp_total)
+
+module _ {K : Type 0} (cmp : K → K → Ordering) (exact : (x y : K) → cmp x y ≡ Equal → x ≡ y) where
+  -- two names are the same or compare unequal
+  pub same_or_apart : (a b : K) → (a ≡ b) ⊎ (cmp a b ≢ Equal)
+  same_or_apart a b =
+      elim (cmp a b) as (λ r. cmp a b ≡ r → (a ≡ b) ⊎ (cmp a b ≢ Equal)) [
+        | Less ↦ λ g. inr (λ h. absurd (cc))
+        | Equal ↦ λ g. inl (exact a b g)
+        | Greater ↦ λ g. inr (λ h. absurd (cc))
+      ] refl
+
+pub same_tx_itself : (a : TxId) → same_tx a a ≡ true
+same_tx_itself a = grind (arith, nat_tests)
+
+pub same_tx_true : (a b : TxId) → same_tx a b ≡ true → a ≡ b
+same_tx_true a b same = exact_txs a b (grind (arith, nat_tests))
+
+pub same_tx_apart : (a b : TxId) → a ≢ b → same_tx a b ≡ false
+same_tx_apart a b apart =
+    elim (same_tx a b) as (λ r. same_tx a b ≡ r → r ≡ false) [
+      | true ↦ λ g. absurd (apart (same_tx_true a b g))
+      | false ↦ λ g. refl
+    ] refl
+
+pub tx_or_other : (a b : TxId) → (a ≡ b) ⊎ (a ≢ b)
+tx_or_other a b =
+    elim (same_tx a b) as (λ r. same_tx a b ≡ r → (a ≡ b) ⊎ (a ≢ b)) [
+      | true ↦ λ g. inl (same_tx_true a b g)
+      | false ↦ λ g. inr (λ h. let itself = same_tx_itself b in let apart = rw h at g in absurd (cc))
+    ] refl

@@ -1,0 +1,6 @@
+use Rattle.std.proofs.Common.{drop, ◌++◌, ◌≡◌}
+use Rattle.base_words.specs.Tables.{keys_in}
+use Rattle.entry_candidates.proofs.places.Places.keys.Given as goal
+
+abbrev pub invariant-loop-key : goal.invariant-loop-key
+invariant-loop-key l = l.keys ++ keys_in (drop l.key-index l.key-items) ≡ keys_in l.key-items

@@ -1,0 +1,4 @@
+pub mod Gathering
+pub mod Owning
+pub mod Placing
+pub mod Taking
