@@ -206,7 +206,7 @@ impl Queues {
         self.queues.lists()
     }
 
-    /// The same queues once more.
+    /// The same queues once more: a pass over them and a pass over the index, each with a sort of the keys.
     pub fn copy(&self) -> Mem<Queues>
         ensures { IfOk result (λ copy. copy ≡ self.now) }
     {
@@ -231,42 +231,66 @@ mod tests {
         }
     }
 
-    /// Each row: who comes to which key, and as what it stands there.
+    /// The queues where one transaction owns the key and another one waits for it.
+    fn held(alloc: Global, key: &Key) -> Mem<Queues> {
+        let mut queues = Queues::new(alloc);
+        queues.enqueue(*key, tx(1))?;
+        queues.enqueue(*key, tx(2))?;
+        Ok(queues)
+    }
+
+    /// Each row: who comes to the key, and as what it stands there.
     #[test]
     fn one_owns_and_the_others_wait(rt: HostRuntime) -> Result<(), Fail> {
-        let a = Key::read(b"a")?;
+        let key = Key::read(b"a")?;
         let rows = [(1, Placed::Owner), (2, Placed::Waits(tx(1)))];
         let mut queues = Queues::new(rt.alloc());
         for (number, placed) in rows {
-            assert_eq!(rt; queues.enqueue(a, tx(number))?, placed, "{number}");
+            assert_eq!(rt; queues.enqueue(key, tx(number))?, placed, "{number}");
         }
-        let wait = Wait {
-            key: a,
-            waiter: tx(2),
-            holder: tx(1),
-        };
-        assert_eq!(rt; queues.edges(&[tx(2)])?.as_slice(), [wait].as_slice());
-        assert!(rt; !queues.drop_waiting(tx(3), &a));
-        assert_eq!(rt; queues.release(tx(1), &a), Some(tx(2)));
-        assert!(rt; queues.edges(&[tx(2)])?.is_empty());
         Ok(())
     }
 
     #[test]
-    fn tells_who_stands_where(rt: HostRuntime) -> Result<(), Fail> {
+    fn the_next_one_owns_what_is_released(rt: HostRuntime) -> Result<(), Fail> {
+        let key = Key::read(b"a")?;
+        let mut queues = held(rt.alloc(), &key)?;
+        assert_eq!(rt; queues.edges(&[tx(2)])?.len(), 1);
+        assert!(rt; !queues.drop_waiting(tx(3), &key));
+        assert_eq!(rt; queues.release(tx(1), &key), Some(tx(2)));
+        Ok(())
+    }
+
+    #[test]
+    fn lists_each_that_stands(rt: HostRuntime) -> Result<(), Fail> {
+        let queues = held(rt.alloc(), &Key::read(b"a")?)?;
+        let standing = queues.standing()?;
+        assert_eq!(rt; standing.as_slice(), [tx(1), tx(2)].as_slice());
+        Ok(())
+    }
+
+    #[test]
+    fn lists_the_keys_of_one(rt: HostRuntime) -> Result<(), Fail> {
+        let key = Key::read(b"a")?;
+        let keys = held(rt.alloc(), &key)?.keys_of(tx(2))?;
+        assert_eq!(rt; keys.as_slice(), [key].as_slice());
+        Ok(())
+    }
+
+    #[test]
+    fn a_copy_has_the_same_lists(rt: HostRuntime) -> Result<(), Fail> {
+        let queues = held(rt.alloc(), &Key::read(b"a")?)?;
+        assert_eq!(rt; queues.copy()?.lists()?, queues.lists()?);
+        Ok(())
+    }
+
+    #[test]
+    fn owns_all_keys_or_none(rt: HostRuntime) -> Result<(), Fail> {
         let keys = [Key::read(b"b")?, Key::read(b"a")?];
-        let mut queues = Queues::new(rt.alloc());
-        for number in 1..3u64 {
-            queues.enqueue(keys[1], tx(number))?;
-        }
-        assert_eq!(rt; queues.standing()?.as_slice(), [tx(1), tx(2)].as_slice());
-        assert_eq!(rt; queues.keys_of(tx(2))?.as_slice(), [keys[1]].as_slice());
-        let blocked = queues.first_blocked(&keys, tx(3));
-        assert_eq!(rt; blocked, Some((keys[1], tx(1))));
+        let mut queues = held(rt.alloc(), &keys[1])?;
         let fault = OwnFault::Blocked(keys[1], tx(1));
         assert_eq!(rt; queues.try_own(&keys, tx(3)), Err(fault));
         assert_eq!(rt; queues.try_own(&keys[..1], tx(3)), Ok(()));
-        assert_eq!(rt; queues.copy()?.lists()?.len(), 2);
         Ok(())
     }
 }
