@@ -82,81 +82,75 @@ fn reads_all_or_stops_at_the_call_that_fails(rt: HostRuntime) -> Result<(), Read
 
 #[test]
 fn reads_at_most_the_limit(rt: HostRuntime) -> Result<(), ReadEnd> {
-    assert_eq!(rt; left_after_too_long(rt.alloc(), 5, 5)?, None);
-    assert_eq!(rt; left_after_too_long(rt.alloc(), 5, 6)?, Some(0));
-    assert_eq!(rt; left_after_too_long(rt.alloc(), 5, 9)?, Some(3));
-    assert_eq!(rt; left_after_too_long(rt.alloc(), 8191, 8192)?, Some(0));
-    assert_eq!(rt;
-        left_after_too_long(rt.alloc(), 8192, 20_000)?,
-        Some(11_807)
-    );
-    let mut source = source_of(rt.alloc(), READ_ALL_LIMIT, &[])?;
-    assert_eq!(rt; read_all(rt.alloc(), &mut source)?.len(), READ_ALL_LIMIT);
-    let mut source = source_of(rt.alloc(), READ_ALL_LIMIT + 1, &[])?;
-    assert_eq!(rt;
-        read_all(rt.alloc(), &mut source).err(),
-        Some(ReadEnd::TooLong)
-    );
+    assert!(rt; left_after_too_long(rt.alloc(), 5, 5)?.is_none());
+    assert!(rt; left_after_too_long(rt.alloc(), 5, 6)? == Some(0));
+    assert!(rt; left_after_too_long(rt.alloc(), 5, 9)? == Some(3));
+    assert!(rt; left_after_too_long(rt.alloc(), 8191, 8192)? == Some(0));
+    assert!(rt; left_after_too_long(rt.alloc(), 8192, 20_000)? == Some(11_807));
     Ok(())
+}
+
+#[test]
+fn reads_what_a_scenario_may_have(rt: HostRuntime) -> Result<(), ReadEnd> {
+    let mut source = source_of(rt.alloc(), READ_ALL_LIMIT, &[])?;
+    assert!(rt; read_all(rt.alloc(), &mut source)?.len() == READ_ALL_LIMIT);
+    let mut source = source_of(rt.alloc(), READ_ALL_LIMIT + 1, &[])?;
+    assert!(rt; matches!(read_all(rt.alloc(), &mut source), Err(ReadEnd::TooLong)));
+    Ok(())
+}
+
+/// Whether a sink with this room holds as much of the report as fits after it was written.
+fn fills(alloc: Global, room: usize) -> Result<bool, ReadEnd> {
+    let report = b"1 commit\n";
+    let mut sink = MemSink::new(alloc, room, Vec::new(alloc))?;
+    let wrote = write_all(&mut sink, report).is_ok();
+    let fitting = room.min(report.len());
+    Ok(wrote == (room >= report.len()) && sink.bytes() == &report[..fitting])
 }
 
 #[test]
 fn fills_each_room(rt: HostRuntime) -> Result<(), ReadEnd> {
-    let report = b"1 commit\n";
     for room in 0..12 {
-        let mut sink = MemSink::new(rt.alloc(), room, Vec::new(rt.alloc()))?;
-        assert_eq!(rt; sink.put(b""), Ok(0), "room {room}");
-        let wrote = write_all(&mut sink, report);
-        assert_eq!(rt; wrote.is_ok(), room >= report.len(), "room {room}");
-        let fitting = room.min(report.len());
-        assert_eq!(rt; sink.bytes(), &report[..fitting], "room {room}");
+        assert!(rt; fills(rt.alloc(), room)?, "room {room}");
     }
     Ok(())
 }
 
-#[test]
-fn keeps_the_bytes_before_a_write_that_fails(rt: HostRuntime) {
-    for (good_calls, want) in [
-        (0, ""),
-        (1, "1 "),
-        (3, "1 comm"),
-        (4, "1 commit"),
-        (9, "1 commit\n"),
-    ] {
-        let mut sink = Drip {
-            taken: Vec::new(rt.alloc()),
-            good_calls,
-            faults: 0,
-        };
-        let wrote = write_all(&mut sink, b"1 commit\n");
-        assert_eq!(rt; wrote.is_ok(), good_calls == 9, "after {good_calls} calls");
-        assert_eq!(rt;
-            sink.taken.as_slice(),
-            want.as_bytes(),
-            "after {good_calls} calls"
-        );
-        assert_eq!(rt; sink.faults, if wrote.is_ok() { 0 } else { 1 });
-    }
+/// Whether a sink that fails after so many calls holds these bytes then.
+fn keeps(alloc: Global, good_calls: u64, want: &[u8]) -> bool {
+    let mut sink = Drip {
+        taken: Vec::new(alloc),
+        good_calls,
+        faults: 0,
+    };
+    let wrote = write_all(&mut sink, b"1 commit\n").is_ok();
+    wrote == (sink.faults == 0) && sink.taken.as_slice() == want
 }
 
 #[test]
-fn a_scenario_meets_a_fault_in_reading_or_writing(rt: HostRuntime) -> Result<(), ReadEnd> {
+fn keeps_the_bytes_before_a_write_that_fails(rt: HostRuntime) {
+    assert!(rt; keeps(rt.alloc(), 0, b""));
+    assert!(rt; keeps(rt.alloc(), 1, b"1 "));
+    assert!(rt; keeps(rt.alloc(), 3, b"1 comm"));
+    assert!(rt; keeps(rt.alloc(), 4, b"1 commit"));
+    assert!(rt; keeps(rt.alloc(), 9, b"1 commit\n"));
+}
+
+#[test]
+fn a_scenario_meets_a_fault_in_reading(rt: HostRuntime) -> Result<(), ReadEnd> {
     let bytes = Vec::from_slice(rt.alloc(), SCENARIO)?;
     let mut source = MemSource::new(bytes, Vec::from_slice(rt.alloc(), &[2])?);
-    assert_eq!(rt;
-        read_all(rt.alloc(), &mut source).err(),
-        Some(ReadEnd::Fault)
-    );
+    assert!(rt; matches!(read_all(rt.alloc(), &mut source), Err(ReadEnd::Fault)));
+    Ok(())
+}
 
-    let bytes = Vec::from_slice(rt.alloc(), SCENARIO)?;
-    let mut source = MemSource::new(bytes, Vec::new(rt.alloc()));
-    let text = read_all(rt.alloc(), &mut source)?;
-    assert_eq!(rt; text.as_slice(), SCENARIO);
+#[test]
+fn a_scenario_meets_a_fault_in_writing(rt: HostRuntime) -> Result<(), ReadEnd> {
     let mut sink = MemSink::new(rt.alloc(), 1000, Vec::from_slice(rt.alloc(), &[1])?)?;
-    assert_eq!(rt; write_all(&mut sink, text.as_slice()), Err(Failed));
+    assert!(rt; write_all(&mut sink, SCENARIO).is_err());
     assert!(rt; sink.bytes().is_empty());
-    assert_eq!(rt; write_all(&mut sink, text.as_slice()), Ok(()));
-    assert_eq!(rt; sink.bytes(), SCENARIO);
+    assert!(rt; write_all(&mut sink, SCENARIO).is_ok());
+    assert!(rt; sink.bytes() == SCENARIO);
     Ok(())
 }
 

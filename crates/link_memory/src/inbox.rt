@@ -6,17 +6,18 @@ ghost use Rattle.base_words.specs.Links.{emptied, emptied_each, is_held, new_inb
 ghost use Rattle.base_words.specs.Tables.{keys_in};
 ghost use Rattle.link_memory.specs.Taking.{TakesLink, TakesNoLink};
 
-use ignite_types::{List, Mem, Message, NoMemory, NodeId};
+use ignite_types::{Mem, Message, NoMemory, NodeId};
 use ordered_table::Table;
 use plain_copies::Duplicate;
 use std::alloc::Global;
+use std::collections::VecDeque;
 use std::marker::Model;
 
 /// A link from one sender: its messages, the oldest first, and whether it is held.
 #[derive(Debug, Drop)]
 pub struct Link {
     held: bool,
-    messages: List<Message>,
+    messages: VecDeque<Message>,
 }
 
 impl Model for Link {
@@ -24,7 +25,7 @@ impl Model for Link {
 
     ghost Value = { LinkValue };
 
-    ghost view = { λ link. record { held = link.held; messages = link.messages } };
+    ghost view = { λ link. record { held = link.held; messages = link.messages.items } };
 }
 
 /// A node's inbox, with a link for each sender. A closed inbox drops what is pushed.
@@ -48,7 +49,7 @@ fn vacant_link(alloc: Global) -> Link
 {
     Link {
         held: false,
-        messages: List::new(alloc),
+        messages: VecDeque::new(alloc),
     }
 }
 
@@ -57,7 +58,8 @@ impl Link {
         ensures ok { OnOk result (self.new ≡ record self.old { messages = self.old.messages ++ message ∷ [] }) }
         ensures err { OnErr result (self.new ≡ self.old) }
     {
-        self.messages.push(message)
+        self.messages.push_back(message)?;
+        Ok(())
     }
 
     /// Takes the oldest message out.
@@ -65,17 +67,13 @@ impl Link {
         ensures oldest { result ≡ slice_get self.old.messages 0 }
         ensures rest { self.new ≡ record self.old { messages = drop 1 self.old.messages } }
     {
-        if self.messages.is_empty() {
-            None
-        } else {
-            Some(self.messages.remove(0))
-        }
+        self.messages.pop_front()
     }
 
     fn oldest(&self) -> Option<&Message>
         ensures { option_copied result ≡ slice_get self.now.messages 0 }
     {
-        self.messages.get(0)
+        self.messages.front()
     }
 
     fn is_held(&self) -> bool
@@ -93,7 +91,7 @@ impl Link {
     fn clear(&mut self, alloc: Global)
         ensures { self.new ≡ record self.old { messages = [] } }
     {
-        self.messages = List::new(alloc);
+        self.messages = VecDeque::new(alloc);
     }
 }
 
@@ -102,9 +100,13 @@ impl Link {
     fn copy(&self, alloc: Global) -> Mem<Link>
         ensures { IfOk result (λ copy. copy ≡ self.now) }
     {
+        let mut messages = VecDeque::with_capacity(alloc, self.messages.len())?;
+        for message in &self.messages {
+            messages.push_back(message.copy(alloc)?)?;
+        }
         Ok(Link {
             held: self.held,
-            messages: self.messages.copy(alloc)?,
+            messages,
         })
     }
 }

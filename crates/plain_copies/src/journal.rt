@@ -6,40 +6,23 @@ use std::alloc::Global;
 
 impl Duplicate for Rec {
     fn copy(&self, alloc: Global) -> Mem<Rec> {
-        match self {
-            Rec::Call { session, command } => Ok(Rec::Call {
-                session: *session,
-                command: *command,
-            }),
-            Rec::Answer { session, answer } => Ok(Rec::Answer {
-                session: *session,
-                answer: *answer,
-            }),
-            Rec::Sent { to, message } => Ok(Rec::Sent {
-                to: *to,
+        Ok(match *self {
+            Rec::Call { session, command } => Rec::Call { session, command },
+            Rec::Answer { session, answer } => Rec::Answer { session, answer },
+            Rec::Sent { to, ref message } => Rec::Sent {
+                to,
                 message: message.copy(alloc)?,
-            }),
-            Rec::Deliver { from, message } => Ok(Rec::Deliver {
-                from: *from,
+            },
+            Rec::Deliver { from, ref message } => Rec::Deliver {
+                from,
                 message: message.copy(alloc)?,
-            }),
-            Rec::See { place } => Ok(Rec::See { place: *place }),
-            Rec::Start { tx, top } => Ok(Rec::Start { tx: *tx, top: *top }),
-            Rec::Grant { tx, top, key } => Ok(Rec::Grant {
-                tx: *tx,
-                top: *top,
-                key: *key,
-            }),
-            Rec::Queue { tx, key, holder } => Ok(Rec::Queue {
-                tx: *tx,
-                key: *key,
-                holder: *holder,
-            }),
-            Rec::Drop { tx, key } => Ok(Rec::Drop { tx: *tx, key: *key }),
-            Rec::Decide { tx, commit } => Ok(Rec::Decide {
-                tx: *tx,
-                commit: *commit,
-            }),
+            },
+            Rec::See { place } => Rec::See { place },
+            Rec::Start { tx, top } => Rec::Start { tx, top },
+            Rec::Grant { tx, top, key } => Rec::Grant { tx, top, key },
+            Rec::Queue { tx, key, holder } => Rec::Queue { tx, key, holder },
+            Rec::Drop { tx, key } => Rec::Drop { tx, key },
+            Rec::Decide { tx, commit } => Rec::Decide { tx, commit },
             Rec::Apply {
                 tx,
                 top,
@@ -47,40 +30,38 @@ impl Duplicate for Rec {
                 key,
                 new,
                 ver,
-            } => Ok(Rec::Apply {
-                tx: *tx,
-                top: *top,
-                primary: *primary,
-                key: *key,
-                new: *new,
-                ver: *ver,
-            }),
-            Rec::Install { map } => Ok(Rec::Install {
+            } => Rec::Apply {
+                tx,
+                top,
+                primary,
+                key,
+                new,
+                ver,
+            },
+            Rec::Install { ref map } => Rec::Install {
                 map: map.copy(alloc)?,
-            }),
-            Rec::Opened { top } => Ok(Rec::Opened { top: *top }),
-            Rec::Lost { node } => Ok(Rec::Lost { node: *node }),
-            Rec::Tick { to } => Ok(Rec::Tick { to: *to }),
-            Rec::Waits { tx, round, waits } => Ok(Rec::Waits {
-                tx: *tx,
-                round: *round,
+            },
+            Rec::Opened { top } => Rec::Opened { top },
+            Rec::Lost { node } => Rec::Lost { node },
+            Rec::Tick { to } => Rec::Tick { to },
+            Rec::Waits {
+                tx,
+                round,
+                ref waits,
+            } => Rec::Waits {
+                tx,
+                round,
                 waits: List::from_slice(alloc, waits.as_slice())?,
-            }),
-            Rec::Expire { tx } => Ok(Rec::Expire { tx: *tx }),
-            Rec::Searched { tx, edges } => Ok(Rec::Searched {
-                tx: *tx,
+            },
+            Rec::Expire { tx } => Rec::Expire { tx },
+            Rec::Searched { tx, ref edges } => Rec::Searched {
+                tx,
                 edges: List::from_slice(alloc, edges.as_slice())?,
-            }),
-            Rec::Fault { tx, fault } => Ok(Rec::Fault {
-                tx: *tx,
-                fault: *fault,
-            }),
-            Rec::Planned { place, refused } => Ok(Rec::Planned {
-                place: *place,
-                refused: *refused,
-            }),
-            Rec::Memory => Ok(Rec::Memory),
-        }
+            },
+            Rec::Fault { tx, fault } => Rec::Fault { tx, fault },
+            Rec::Planned { place, refused } => Rec::Planned { place, refused },
+            Rec::Memory => Rec::Memory,
+        })
     }
 }
 

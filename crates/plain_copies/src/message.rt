@@ -48,134 +48,104 @@ impl Duplicate for Single {
 
 impl Duplicate for Message {
     fn copy(&self, alloc: Global) -> Mem<Message> {
-        match self {
-            Message::Lock { tx, top, key } => Ok(Message::Lock {
-                tx: *tx,
-                top: *top,
-                key: *key,
-            }),
-            Message::LockOk { tx, key, found } => Ok(Message::LockOk {
-                tx: *tx,
-                key: *key,
-                found: *found,
-            }),
-            Message::Get { tx, key, near } => Ok(Message::Get {
-                tx: *tx,
-                key: *key,
-                near: *near,
-            }),
-            Message::GetOk { tx, key, found } => Ok(Message::GetOk {
-                tx: *tx,
-                key: *key,
-                found: *found,
-            }),
+        Ok(match *self {
+            Message::Lock { tx, top, key } => Message::Lock { tx, top, key },
+            Message::LockOk { tx, key, found } => Message::LockOk { tx, key, found },
+            Message::Get { tx, key, near } => Message::Get { tx, key, near },
+            Message::GetOk { tx, key, found } => Message::GetOk { tx, key, found },
             Message::Prepare {
                 tx,
                 top,
                 mode,
-                shares,
-                wanted,
-                writes,
-            } => Ok(Message::Prepare {
-                tx: *tx,
-                top: *top,
-                mode: *mode,
+                ref shares,
+                ref wanted,
+                ref writes,
+            } => Message::Prepare {
+                tx,
+                top,
+                mode,
                 shares: List::from_slice(alloc, shares.as_slice())?,
                 wanted: List::from_slice(alloc, wanted.as_slice())?,
                 writes: List::from_slice(alloc, writes.as_slice())?,
-            }),
-            Message::Prepared { tx } => Ok(Message::Prepared { tx: *tx }),
-            Message::PrepareFail { tx, fail } => Ok(Message::PrepareFail {
-                tx: *tx,
-                fail: *fail,
-            }),
+            },
+            Message::Prepared { tx } => Message::Prepared { tx },
+            Message::PrepareFail { tx, fail } => Message::PrepareFail { tx, fail },
             Message::BackupPrepare {
                 tx,
                 top,
-                shares,
+                ref shares,
                 primary,
-                writes,
-            } => Ok(Message::BackupPrepare {
-                tx: *tx,
-                top: *top,
+                ref writes,
+            } => Message::BackupPrepare {
+                tx,
+                top,
                 shares: List::from_slice(alloc, shares.as_slice())?,
-                primary: *primary,
+                primary,
                 writes: List::from_slice(alloc, writes.as_slice())?,
-            }),
-            Message::BackupPrepared { tx } => Ok(Message::BackupPrepared { tx: *tx }),
-            Message::Finish { tx, commit } => Ok(Message::Finish {
-                tx: *tx,
-                commit: *commit,
-            }),
-            Message::Finished { tx } => Ok(Message::Finished { tx: *tx }),
+            },
+            Message::BackupPrepared { tx } => Message::BackupPrepared { tx },
+            Message::Finish { tx, commit } => Message::Finish { tx, commit },
+            Message::Finished { tx } => Message::Finished { tx },
             Message::BackupFinish {
                 tx,
                 primary,
                 commit,
-            } => Ok(Message::BackupFinish {
-                tx: *tx,
-                primary: *primary,
-                commit: *commit,
-            }),
-            Message::BackupFinished { tx, primary } => Ok(Message::BackupFinished {
-                tx: *tx,
-                primary: *primary,
-            }),
-            Message::NearUpdate { tx, key, new, ver } => Ok(Message::NearUpdate {
-                tx: *tx,
-                key: *key,
-                new: *new,
-                ver: *ver,
-            }),
-            Message::NearDone { tx, key } => Ok(Message::NearDone { tx: *tx, key: *key }),
-            Message::Edges { tx, round, of } => Ok(Message::Edges {
-                tx: *tx,
-                round: *round,
+            } => Message::BackupFinish {
+                tx,
+                primary,
+                commit,
+            },
+            Message::BackupFinished { tx, primary } => Message::BackupFinished { tx, primary },
+            Message::NearUpdate { tx, key, new, ver } => Message::NearUpdate { tx, key, new, ver },
+            Message::NearDone { tx, key } => Message::NearDone { tx, key },
+            Message::Edges { tx, round, ref of } => Message::Edges {
+                tx,
+                round,
                 of: List::from_slice(alloc, of.as_slice())?,
-            }),
+            },
             Message::EdgesOk {
                 tx,
                 round,
                 act,
-                waits,
-            } => Ok(Message::EdgesOk {
-                tx: *tx,
-                round: *round,
-                act: *act,
+                ref waits,
+            } => Message::EdgesOk {
+                tx,
+                round,
+                act,
                 waits: List::from_slice(alloc, waits.as_slice())?,
-            }),
-            Message::Single { top, map, complete } => Ok(Message::Single {
-                top: *top,
+            },
+            Message::Single {
+                top,
+                ref map,
+                ref complete,
+            } => Message::Single {
+                top,
                 map: map.copy(alloc)?,
                 complete: List::from_slice(alloc, complete.as_slice())?,
-            }),
-            Message::Full { map } => Ok(Message::Full {
+            },
+            Message::Full { ref map } => Message::Full {
                 map: map.copy(alloc)?,
-            }),
-            Message::Installed { top } => Ok(Message::Installed { top: *top }),
-            Message::Opens { top } => Ok(Message::Opens { top: *top }),
-            Message::Demand { top, part, after } => Ok(Message::Demand {
-                top: *top,
-                part: *part,
-                after: *after,
-            }),
+            },
+            Message::Installed { top } => Message::Installed { top },
+            Message::Opens { top } => Message::Opens { top },
+            Message::Demand { top, part, after } => Message::Demand { top, part, after },
             Message::Supply {
                 top,
                 part,
-                entries,
+                ref entries,
                 last,
-            } => Ok(Message::Supply {
-                top: *top,
-                part: *part,
+            } => Message::Supply {
+                top,
+                part,
                 entries: List::from_slice(alloc, entries.as_slice())?,
-                last: *last,
-            }),
-            Message::Complete { top } => Ok(Message::Complete { top: *top }),
-            Message::Orphans { round, list } => Ok(Message::Orphans {
-                round: *round,
+                last,
+            },
+            Message::Complete { top } => Message::Complete { top },
+            Message::Orphans { round, ref list } => Message::Orphans {
+                round,
                 list: list.copy(alloc)?,
-            }),
-        }
+            },
+        })
     }
 }
 

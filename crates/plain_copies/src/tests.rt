@@ -126,13 +126,19 @@ fn copies_scenarios(rt: HostRuntime) -> Result<(), Fail> {
 }
 
 #[test]
-fn copies_what_messages_carry(rt: HostRuntime) -> Result<(), Fail> {
+fn copies_waiters(rt: HostRuntime) -> Result<(), Fail> {
     let alloc = rt.alloc();
     let waiters = Waiters {
         key: Key::read(b"k")?,
         txs: one(alloc, TX)?,
     };
     assert!(rt; equals_its_copy(alloc, &waiters)?);
+    Ok(())
+}
+
+#[test]
+fn copies_held_shares(rt: HostRuntime) -> Result<(), Fail> {
+    let alloc = rt.alloc();
     let held = HeldShare {
         tx: TX,
         shares: one(alloc, SHARE)?,
@@ -140,6 +146,12 @@ fn copies_what_messages_carry(rt: HostRuntime) -> Result<(), Fail> {
         state: ShareState::Committed,
     };
     assert!(rt; equals_its_copy(alloc, &held)?);
+    Ok(())
+}
+
+#[test]
+fn copies_singles(rt: HostRuntime) -> Result<(), Fail> {
+    let alloc = rt.alloc();
     let single = Single {
         from: NODE,
         top: TOP,
@@ -151,49 +163,64 @@ fn copies_what_messages_carry(rt: HostRuntime) -> Result<(), Fail> {
 }
 
 #[test]
-fn copies_messages(rt: HostRuntime) -> Result<(), Fail> {
+fn copies_prepares(rt: HostRuntime) -> Result<(), Fail> {
     let alloc = rt.alloc();
-    let (key, value) = (Key::read(b"k")?, Value::read(b"v")?);
-    let finish = Message::Finish {
-        tx: TX,
-        commit: true,
-    };
-    assert!(rt; equals_its_copy(alloc, &finish)?);
-    assert!(rt; equals_its_copy(alloc, &prepare(alloc, key, value)?)?);
-    assert!(rt; equals_its_copy(alloc, &supply(alloc, key, value)?)?);
+    let message = prepare(alloc, Key::read(b"k")?, Value::read(b"v")?)?;
+    assert!(rt; equals_its_copy(alloc, &message)?);
     Ok(())
 }
 
 #[test]
-fn copies_messages_with_trees(rt: HostRuntime) -> Result<(), Fail> {
+fn copies_supplies(rt: HostRuntime) -> Result<(), Fail> {
     let alloc = rt.alloc();
-    let full = Message::Full { map: map(alloc)? };
-    assert!(rt; equals_its_copy(alloc, &full)?);
+    let message = supply(alloc, Key::read(b"k")?, Value::read(b"v")?)?;
+    assert!(rt; equals_its_copy(alloc, &message)?);
+    Ok(())
+}
+
+#[test]
+fn copies_maps(rt: HostRuntime) -> Result<(), Fail> {
+    let alloc = rt.alloc();
+    let message = Message::Full { map: map(alloc)? };
+    assert!(rt; equals_its_copy(alloc, &message)?);
+    Ok(())
+}
+
+#[test]
+fn copies_orphans(rt: HostRuntime) -> Result<(), Fail> {
+    let alloc = rt.alloc();
     let list = one(alloc, orphan(alloc)?)?;
     assert!(rt; equals_its_copy(alloc, &Message::Orphans { round: 2, list })?);
+    Ok(())
+}
+
+/// What an act sends and notes.
+fn effect(alloc: Global) -> Mem<Effect> {
+    let out = Out {
+        to: NODE,
+        msg: Message::Finished { tx: TX },
+    };
+    let recs = one(alloc, Rec::Install { map: map(alloc)? })?;
+    Ok(Effect {
+        outs: one(alloc, out)?,
+        recs,
+    })
+}
+
+#[test]
+fn copies_effects(rt: HostRuntime) -> Result<(), Fail> {
+    let alloc = rt.alloc();
+    assert!(rt; equals_its_copy(alloc, &effect(alloc)?)?);
     Ok(())
 }
 
 #[test]
 fn copies_runs(rt: HostRuntime) -> Result<(), Fail> {
     let alloc = rt.alloc();
-    let (key, value) = (Key::read(b"k")?, Value::read(b"v")?);
-    let message = prepare(alloc, key, value)?;
-    let out = Out {
-        to: NODE,
-        msg: supply(alloc, key, value)?,
-    };
-    let mut recs = one(alloc, Rec::Sent { to: NODE, message })?;
-    recs.push(Rec::Install { map: map(alloc)? })?;
-    recs.push(Rec::Memory)?;
-    let effect = Effect {
-        outs: one(alloc, out)?,
-        recs: recs.copy(alloc)?,
-    };
-    assert!(rt; equals_its_copy(alloc, &effect)?);
+    let message = Message::Finished { tx: TX };
     let group = Group {
         event: Event::Act(NODE, NodeId(8)),
-        recs,
+        recs: one(alloc, Rec::Sent { to: NODE, message })?,
     };
     let journal = Journal {
         scenario: scenario(alloc)?,

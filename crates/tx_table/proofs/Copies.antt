@@ -1,5 +1,5 @@
--- A table that is built entry by entry from one in order.
-use Rattle.std.proofs.Common.{◌≡◌, ℕ, ◌+◌, ◌<◌, zero, suc, List, [], ◌∷◌, length, take, get_or, Some, refl, ap, ◌∙◌, arith, add-one}
+-- Tables that are copied entry by entry: the orders of their keys, and what stands at a key.
+use Rattle.std.proofs.Common.{◌≡◌, ℕ, ◌+◌, ◌<◌, zero, suc, List, [], ◌∷◌, length, take, get_or, Some, ◌∙◌, ap, arith}
 use Rattle.std.specs.declared.cmp.Ordering.TheVariants.{Greater}
 use Rattle.std.specs.declared.cmp.Ordering.{Ordering}
 use Rattle.std.specs.Cmp.{IsTotalOrder, then_total, on_total}
@@ -10,6 +10,7 @@ use Rattle.ignite_types.specs.declared.names.TxId.{TxId}
 use Rattle.ignite_types.specs.declared.text.Key.{Key}
 use Rattle.ordered_table.specs.Entries.{at, put}
 use Rattle.ordered_table.specs.Places.{IsBelowAll, IsAscending}
+use Rattle.ordered_table.proofs.Copies as copies
 use Rattle.tx_table.specs.declared.entry.Touched.{Touched}
 
 pub tx_total : IsTotalOrder tx_cmp
@@ -26,14 +27,6 @@ module _ {K V : Type 0} (cmp : K → K → Ordering) (o : IsTotalOrder cmp) wher
   greater_at x (e ∷ es) zero d below l = o.antisymm e.0 x ∙ ap ordering_reverse below.0
   greater_at x (e ∷ es) (suc i) d below l = greater_at x es i d below.1 (omega arith)
 
-  -- the next entry comes to the end of a copy
-  pub put_next : (es : List (K × V)) (i : ℕ) (d : K × V) → IsAscending cmp es → i < length es → put cmp (take i es) (get_or es i d).0 (get_or es i d).1 ≡ take (suc i) es
-  put_next [] i d ascending l = absurd (omega arith)
-  put_next (e ∷ es) zero d ascending l = refl
-  put_next (e ∷ es) (suc i) d ascending l =
-      let more : i < length es = omega arith in
-      rw (greater_at e.0 es i d ascending.0 more) (ap (λ r. e ∷ r) (put_next es i d ascending.1 more))
-
   -- the value of an entry is what is at its key
   pub at_place : (es : List (K × V)) (i : ℕ) (d : K × V) → IsAscending cmp es → i < length es → at cmp es (get_or es i d).0 ≡ Some (get_or es i d).1
   at_place [] i d ascending l = absurd (omega arith)
@@ -44,4 +37,4 @@ module _ {K V : Type 0} (cmp : K → K → Ordering) (o : IsTotalOrder cmp) wher
 
 -- one touched key more of the copy
 pub touched_more : (es : List (Key × Touched)) (i : ℕ) (d : Key × Touched) → IsAscending key_cmp es → i < length es → put key_cmp (take i es) (get_or es i d).0 (get_or es i d).1 ≡ take (i + 1) es
-touched_more es i d ascending l = rw (add-one i) (put_next key_cmp key_total es i d ascending l)
+touched_more = copies.copied_more key_cmp key_total

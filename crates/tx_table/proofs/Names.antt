@@ -14,7 +14,8 @@ use Rattle.ignite_types.specs.Names.{tx_cmp}
 use Rattle.ignite_types.specs.declared.names.TxId.{TxId}
 use Rattle.tx_table.specs.Takes.{Takes}
 use Rattle.tx_table.specs.Transactions.{Transaction, Transactions}
-use Rattle.tx_table.proofs.Copies.{at_place, put_next, tx_total}
+use Rattle.ordered_table.proofs.Copies as copies
+use Rattle.tx_table.proofs.Copies.{at_place, tx_total}
 use Rattle.hash_table.specs.SameKeys.{exact_txs}
 
 module _ {K : Type 0} (cmp : K → K → Ordering) where
@@ -144,4 +145,4 @@ tx_copied ns txs i d t same ascending l was =
     let value : t ≡ (get_or txs i e).1 = cc in
     rw (same_name ns txs same i d e l)
     (ap (λ (x : Transaction). put tx_cmp (take i txs) (get_or txs i e).0 x) value
-    ∙ rw (add-one i) (put_next tx_cmp tx_total txs i e ascending (omega (arith, as_many ns txs same))))
+    ∙ copies.copied_more tx_cmp tx_total txs i e ascending (omega (arith, as_many ns txs same)))
