@@ -9,6 +9,8 @@ mod numbers;
 mod progress;
 mod ranges;
 
+pub use answers::{answer_number, item_end, phase_after};
 pub use commands::command_at;
 pub use numbers::{added, number_of, number_value};
 pub use progress::{advance, advance_told};
+pub use ranges::range_of;

@@ -20,7 +20,8 @@ pub fn copied(alloc: Global, ranges: &Table<Key, Range>) -> Mem<Table<Key, Range
     Ok(copy)
 }
 
-fn range_of(sum: Option<i64>) -> Option<Range>
+/// The numbers behind the first one of ten, of which the sum is the last.
+pub fn range_of(sum: Option<i64>) -> Option<Range>
     ensures { result ≡ range_of sum }
 {
     let sum = sum?;
