@@ -34,7 +34,8 @@ fn poll_command(object: &Key, phase: &Phase) -> Command
     }
 }
 
-fn command_of(item: &Item, phase: &Phase) -> Command
+/// The plain command that an item needs next, having come so far.
+pub fn command_of(item: &Item, phase: &Phase) -> Command
     ensures { result ≡ command_of item.now phase.now }
 {
     match item {

@@ -10,7 +10,7 @@ mod progress;
 mod ranges;
 
 pub use answers::{answer_number, item_end, phase_after};
-pub use commands::command_at;
+pub use commands::{command_at, command_of};
 pub use numbers::{added, number_of, number_value};
 pub use progress::{advance, advance_told};
 pub use ranges::range_of;
