@@ -1,0 +1,4 @@
+pub mod Courses
+pub mod Desks
+pub mod Sequences
+pub mod Taking
