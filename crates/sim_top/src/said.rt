@@ -13,6 +13,7 @@ ghost use Rattle.sim_top.specs.Sim.{Comes, SaysIn, LineSays, Means, ReadSays, Re
 use crate::drive::drive;
 use crate::options::{Form, Options, options_of};
 use command_words::{Make, WordsFault};
+use commit_history::commits;
 use host_io::{ReadEnd, Source, read_all};
 use ignite_types::{End, Journal, List, Mem, NoMemory, Scenario, Status};
 use report_text::report;
@@ -20,7 +21,7 @@ use scen_text::{Cause, ReadFault, read_scenario, refusal_line};
 use sched_seed::make_scenario;
 use std::alloc::Global;
 use summary_text::{Made, history_json, summary};
-use tx_model::{Outlook, commits};
+use tx_model::Outlook;
 use world_core::World;
 
 /// What a call with other words is told.

@@ -7,7 +7,6 @@ ghost use Rattle.tx_model.specs.History as history;
 
 use crate::walk::Walk;
 use ignite_types::{Group, Journal, Key, List, Mem, Rec, TopVer, TxId, Value};
-use ordered_set::Set;
 use ordered_table::Table;
 use std::alloc::Global;
 
@@ -27,11 +26,10 @@ pub struct BadRead {
     pub key: Key,
 }
 
-fn footprint_in(alloc: Global, groups: &[Group], tx: &TxId) -> Mem<CommitEntry>
-    ensures { IfOk result (λ entry. entry ≡ history.footprint groups.now tx.now) }
+/// What the walk of a transaction found, once all records are walked; a call that is not answered is counted where it was done.
+pub fn entry_of(alloc: Global, walk: &mut Walk, tx: &TxId) -> Mem<CommitEntry>
+    ensures { IfOk result (λ entry. entry ≡ history.entry_from tx.now (history.with_called tx.now walk.old walk.old.called)) }
 {
-    let mut walk = Walk::new(alloc);
-    walk.walk(tx, groups)?;
     walk.count_called(tx)?;
     Ok(CommitEntry {
         tx: *tx,
@@ -44,6 +42,14 @@ fn footprint_in(alloc: Global, groups: &[Group], tx: &TxId) -> Mem<CommitEntry>
     })
 }
 
+fn footprint_in(alloc: Global, groups: &[Group], tx: &TxId) -> Mem<CommitEntry>
+    ensures { IfOk result (λ entry. entry ≡ history.footprint groups.now tx.now) }
+{
+    let mut walk = Walk::new(alloc);
+    walk.walk(tx, groups)?;
+    entry_of(alloc, &mut walk, tx)
+}
+
 /// What the transaction read and wrote.
 pub fn footprint(alloc: Global, journal: &Journal, tx: TxId) -> Mem<CommitEntry>
     ensures { IfOk result (λ entry. entry ≡ history.footprint journal.now.groups tx) }
@@ -52,33 +58,13 @@ pub fn footprint(alloc: Global, journal: &Journal, tx: TxId) -> Mem<CommitEntry>
 }
 
 /// The transaction that the record says is committed.
-fn committed(rec: &Rec) -> Option<TxId>
+pub fn committed(rec: &Rec) -> Option<TxId>
     ensures { result ≡ history.committed_in rec.now }
 {
     match rec {
         Rec::Decide { tx, commit } => { if *commit { Some(*tx) } else { None } }
         _ => None,
     }
-}
-
-/// The committed transactions in the order of their first commit decisions, each with what it read and wrote.
-pub fn commits(alloc: Global, journal: &Journal) -> Mem<List<CommitEntry>>
-    ensures { IfOk result (λ list. list ≡ history.commits_of journal.now) }
-{
-    let groups = journal.groups.as_slice();
-    let mut seen = Set::new(alloc);
-    let mut list = List::new(alloc);
-    for group in groups {
-        for rec in group.recs.as_slice() {
-            if let Some(tx) = committed(rec) {
-                if !seen.contains(&tx) {
-                    list.push(footprint_in(alloc, groups, &tx)?)?;
-                    seen.insert(tx)?;
-                }
-            }
-        }
-    }
-    Ok(list)
 }
 
 /// Whether the map's value at the key is the one that was read.

@@ -5,6 +5,6 @@ mod history;
 mod outlook;
 mod walk;
 
-pub use history::{BadRead, CommitEntry, commits, footprint, serial};
+pub use history::{BadRead, CommitEntry, committed, entry_of, footprint, serial};
 pub use outlook::{Outlook, Standing};
-pub use walk::Walk;
+pub use walk::{Walk, access_key, newly_found, taker_of};

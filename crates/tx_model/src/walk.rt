@@ -44,7 +44,7 @@ pub struct Walk {
 }
 
 /// The key of an access.
-fn access_key(command: &Command) -> Option<Key>
+pub fn access_key(command: &Command) -> Option<Key>
     ensures { result ≡ access_key command.now }
 {
     match command {
@@ -80,7 +80,7 @@ fn value_found(found: &Found) -> Option<Value>
 }
 
 /// What an update tells of a key.
-fn newly_found(new: &Option<Value>, ver: CacheVersion) -> Found
+pub fn newly_found(new: &Option<Value>, ver: CacheVersion) -> Found
     ensures { result ≡ history.newly_found new.now ver }
 {
     match new {
@@ -90,7 +90,7 @@ fn newly_found(new: &Option<Value>, ver: CacheVersion) -> Found
 }
 
 /// The node that takes a message in an event.
-fn taker_of(event: &Event) -> Option<NodeId>
+pub fn taker_of(event: &Event) -> Option<NodeId>
     ensures { result ≡ history.taker_of event.now }
 {
     match event {
@@ -101,7 +101,7 @@ fn taker_of(event: &Event) -> Option<NodeId>
 
 impl Walk {
     /// Before the first record.
-    pub(crate) fn new(alloc: Global) -> Walk
+    pub fn new(alloc: Global) -> Walk
         ensures { result ≡ history.fresh_walk }
     {
         Walk {
@@ -212,7 +212,7 @@ impl Walk {
     }
 
     /// An access is counted.
-    fn access(&mut self, command: &Command) -> Mem<()>
+    pub fn access(&mut self, command: &Command) -> Mem<()>
         ensures { OnOk result (self.new ≡ history.accessed self.old command.now) }
     {
         match command {
@@ -291,7 +291,7 @@ impl Walk {
     }
 
     /// The pending call, if there is one, is answered.
-    fn answer(&mut self, tx: &TxId, answer: &Answer) -> Mem<()>
+    pub fn answer(&mut self, tx: &TxId, answer: &Answer) -> Mem<()>
         ensures { OnOk result (self.new ≡ history.answered tx.now self.old self.old.called answer.now) }
     {
         let command = match &self.called {

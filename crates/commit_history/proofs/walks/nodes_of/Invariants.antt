@@ -1,0 +1,6 @@
+use Rattle.std.proofs.Common.{◌≡◌, [], drop}
+use Rattle.commit_history.specs.Steps.{nodes_from}
+use Rattle.commit_history.proofs.walks.nodes_of.Given as goal
+
+abbrev pub invariant-loop-session : goal.invariant-loop-session
+invariant-loop-session l = nodes_from l.number l.nodes (drop l.session-index l.sessions) ≡ nodes_from 1 [] l.sessions
