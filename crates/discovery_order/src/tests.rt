@@ -23,13 +23,17 @@ fn one_server(alloc: Global) -> Mem<Directory> {
 }
 
 #[test]
-fn a_join_opens_a_version_once(rt: HostRuntime) -> Result<(), Fail> {
+fn a_number_joins_once(rt: HostRuntime) -> Result<(), Fail> {
     let alloc = rt.alloc();
     let mut directory = one_server(alloc)?;
     let joined = directory.join(alloc, member(3));
     assert!(rt; matches!(joined, Ok(TopVer { major: 2, minor: 0 })));
     let again = directory.join(alloc, member(3));
     assert!(rt; matches!(again, Err(JoinFault::AlreadyIn)));
+    let gone = directory.leave(alloc, NodeId(8), None);
+    assert!(rt; matches!(gone, Err(LeftFault::Refused(NoLoss::NotIn))));
+    let minor = directory.append_minor(alloc)?;
+    assert!(rt; matches!(minor, TopVer { major: 2, minor: 1 }));
     Ok(())
 }
 
