@@ -1,0 +1,17 @@
+pub mod Accesses
+pub mod Acting
+pub mod Acts
+pub mod Backups
+pub mod Closing
+pub mod Commands
+pub mod Decisions
+pub mod Exchange
+pub mod Extending
+pub mod Filling
+pub mod Locks
+pub mod Primary
+pub mod Recovery
+pub mod Searches
+pub mod Starts
+pub mod Steps
+pub mod Stores
