@@ -1,7 +1,5 @@
 -- A backup's or mover's part in both phases extends the node.
 use Rattle.std.proofs.Common.{List, Option, Some, None, Bool, true, false, refl}
-use Rattle.act_frames.specs.Extending.{Extends}
-use Rattle.act_frames.proofs.Extending.{nothing, aside, andthen, sent_extends}
 use Rattle.act_rows.specs.Primary.{forgetting}
 use Rattle.act_rows.specs.Steps.{backup_of, sent, with_backup}
 use Rattle.act_rows.specs.Stores.{applied_all}
@@ -17,42 +15,45 @@ use Rattle.node_state.specs.declared.primary.BackupShare.{BackupShare}
 use Rattle.ignite_types.specs.declared.message.Message.TheVariants as msg
 use Rattle.act_rows.specs.Backups.{backup_prepare_row, commits_backup, drops_backup, finishes_backup, backup_finish_by, backup_finish_row}
 use Rattle.ignite_types.specs.declared.placement.ShareState.TheVariants.{Preparing, Undoing}
-use Rattle.act_frames.proofs.Primary.{forgetting_extends}
-use Rattle.act_frames.proofs.Steps.{with_backup_extends}
-use Rattle.act_frames.proofs.Stores.{applied_all_extends}
+use Rattle.act_frames.proofs.Primary.{forgetting_kept}
+use Rattle.act_frames.proofs.Steps.{with_backup_kept}
+use Rattle.act_frames.proofs.Stores.{applied_all_kept}
+use Rattle.act_frames.specs.Kits.{Kit}
+use Rattle.act_frames.proofs.Kits.{sent_kept}
 
-pub backup_prepare_row_extends : (s : NodeState) (from : NodeId) (tx : TxId) (top : TopVer) (shares : List Share) (primary : NodeId) (writes : List Stored) → Extends s (backup_prepare_row s from tx top shares primary writes)
-backup_prepare_row_extends s from tx top shares primary writes =
-    let old = forgetting s tx in
-    let share : BackupShare = record { top = top; shares = shares; writes = writes; state = Prepared } in
-    let kept = with_backup old tx primary share in
-    andthen s kept (sent kept from (msg.BackupPrepared tx))
-    (andthen s old kept (forgetting_extends s tx) (with_backup_extends old tx primary share))
-    (sent_extends kept from (msg.BackupPrepared tx))
+module _ (R : NodeState → NodeState → Type 0) (kit : Kit R) where
+  pub backup_prepare_row_kept : (s : NodeState) (from : NodeId) (tx : TxId) (top : TopVer) (shares : List Share) (primary : NodeId) (writes : List Stored) → R s (backup_prepare_row s from tx top shares primary writes)
+  backup_prepare_row_kept s from tx top shares primary writes =
+      let old = forgetting s tx in
+      let share : BackupShare = record { top = top; shares = shares; writes = writes; state = Prepared } in
+      let kept = with_backup old tx primary share in
+      kit.andthen s kept (sent kept from (msg.BackupPrepared tx))
+      (kit.andthen s old kept (forgetting_kept R kit s tx) (with_backup_kept R kit old tx primary share))
+      (sent_kept R kit kept from (msg.BackupPrepared tx))
 
-pub commits_backup_extends : (s : NodeState) (tx : TxId) (primary : NodeId) (h : BackupShare) → Extends s (commits_backup s tx primary h)
-commits_backup_extends s tx primary h = let done = applied_all s tx h.top primary h.writes in
-    andthen s done (with_backup done tx primary (record h { state = Committed }))
-    (applied_all_extends s tx h.top primary h.writes)
-    (with_backup_extends done tx primary (record h { state = Committed }))
+  pub commits_backup_kept : (s : NodeState) (tx : TxId) (primary : NodeId) (h : BackupShare) → R s (commits_backup s tx primary h)
+  commits_backup_kept s tx primary h = let done = applied_all s tx h.top primary h.writes in
+      kit.andthen s done (with_backup done tx primary (record h { state = Committed }))
+      (applied_all_kept R kit s tx h.top primary h.writes)
+      (with_backup_kept R kit done tx primary (record h { state = Committed }))
 
-pub drops_backup_extends : (s : NodeState) (tx : TxId) (primary : NodeId) → Extends s (drops_backup s tx primary)
-drops_backup_extends s tx primary = aside s (drops_backup s tx primary) refl refl refl refl refl
+  pub drops_backup_kept : (s : NodeState) (tx : TxId) (primary : NodeId) → R s (drops_backup s tx primary)
+  drops_backup_kept s tx primary = kit.aside s (drops_backup s tx primary) refl refl refl refl refl refl
 
-pub finishes_backup_extends : (s : NodeState) (tx : TxId) (primary : NodeId) (commit : Bool) (h : BackupShare) (st : ShareState) → Extends s (finishes_backup s tx primary commit h st)
-finishes_backup_extends s tx primary true h Prepared = commits_backup_extends s tx primary h
-finishes_backup_extends s tx primary true h Preparing = nothing s
-finishes_backup_extends s tx primary true h Committed = nothing s
-finishes_backup_extends s tx primary true h Undoing = nothing s
-finishes_backup_extends s tx primary false h st = drops_backup_extends s tx primary
+  pub finishes_backup_kept : (s : NodeState) (tx : TxId) (primary : NodeId) (commit : Bool) (h : BackupShare) (st : ShareState) → R s (finishes_backup s tx primary commit h st)
+  finishes_backup_kept s tx primary true h Prepared = commits_backup_kept s tx primary h
+  finishes_backup_kept s tx primary true h Preparing = kit.nothing s
+  finishes_backup_kept s tx primary true h Committed = kit.nothing s
+  finishes_backup_kept s tx primary true h Undoing = kit.nothing s
+  finishes_backup_kept s tx primary false h st = drops_backup_kept s tx primary
 
-pub backup_finish_by_extends : (s : NodeState) (tx : TxId) (primary : NodeId) (commit : Bool) (share : Option BackupShare) → Extends s (backup_finish_by s tx primary commit share)
-backup_finish_by_extends s tx primary commit None = nothing s
-backup_finish_by_extends s tx primary commit (Some h) = finishes_backup_extends s tx primary commit h h.state
+  pub backup_finish_by_kept : (s : NodeState) (tx : TxId) (primary : NodeId) (commit : Bool) (share : Option BackupShare) → R s (backup_finish_by s tx primary commit share)
+  backup_finish_by_kept s tx primary commit None = kit.nothing s
+  backup_finish_by_kept s tx primary commit (Some h) = finishes_backup_kept s tx primary commit h h.state
 
-pub backup_finish_row_extends : (s : NodeState) (from : NodeId) (tx : TxId) (primary : NodeId) (commit : Bool) → Extends s (backup_finish_row s from tx primary commit)
-backup_finish_row_extends s from tx primary commit =
-    let after = backup_finish_by s tx primary commit (backup_of s tx primary) in
-    andthen s after (sent after from (msg.BackupFinished tx primary))
-    (backup_finish_by_extends s tx primary commit (backup_of s tx primary))
-    (sent_extends after from (msg.BackupFinished tx primary))
+  pub backup_finish_row_kept : (s : NodeState) (from : NodeId) (tx : TxId) (primary : NodeId) (commit : Bool) → R s (backup_finish_row s from tx primary commit)
+  backup_finish_row_kept s from tx primary commit =
+      let after = backup_finish_by s tx primary commit (backup_of s tx primary) in
+      kit.andthen s after (sent after from (msg.BackupFinished tx primary))
+      (backup_finish_by_kept s tx primary commit (backup_of s tx primary))
+      (sent_kept R kit after from (msg.BackupFinished tx primary))

@@ -1,13 +1,18 @@
 -- The small steps of rows, each of which extends the node.
-use Rattle.std.proofs.Common.{◌≡◌, ◌++◌, ◌&&◌, List, [], ◌∷◌, Bool, true, false, if◌then◌else◌, refl, ap, sym, ◌∙◌}
+use Rattle.std.proofs.Common.{◌≡◌, ◌++◌, ◌&&◌, List, [], ◌∷◌, Bool, true, false, refl, ap, sym, ◌∙◌, Option, Some, None}
 use Rattle.std.specs.List.{list_all}
 use Rattle.act_frames.specs.Extending.{Extends, is_own}
 use Rattle.ignite_types.specs.declared.journal.Rec.{Rec}
-use Rattle.ignite_types.specs.declared.message.Message.{Message}
 use Rattle.ignite_types.specs.declared.message.Out.{Out}
 use Rattle.ignite_types.specs.declared.names.NodeId.{NodeId}
 use Rattle.node_state.specs.declared.node.NodeState.{NodeState}
-use Rattle.act_rows.specs.Steps.{noting, sent, sent_all}
+use Rattle.act_frames.specs.Kits.{Kit}
+use Rattle.act_rows.specs.Locks.{enqueued, grants, is_owner, leaves, owner_at, passed_on, placed, released}
+use Rattle.act_rows.specs.Steps.{installed_top, noting, sent_all}
+use Rattle.ignite_types.specs.declared.names.TopVer.{TopVer}
+use Rattle.ignite_types.specs.declared.names.TxId.{TxId}
+use Rattle.ignite_types.specs.declared.text.Key.{Key}
+use Rattle.ignite_types.specs.declared.journal.Rec.TheVariants as note
 
 pub append_none : {A : Type 0} (xs : List A) → xs ++ [] ≡ xs
 append_none [] = refl
@@ -54,7 +59,7 @@ andthen a b c first second = record {
   outbox_is = second.outbox_is ∙ ap (λ os. os ++ second.more_sent) first.outbox_is ∙ append_twice a.outbox first.more_sent second.more_sent;
 }
 
-pub noting_extends : (s : NodeState) (r : Rec) → is_own r ≡ true → Extends s (noting s r)
+noting_extends : (s : NodeState) (r : Rec) → is_own r ≡ true → Extends s (noting s r)
 noting_extends s r own = record {
   same_me = refl;
   same_acts = refl;
@@ -66,7 +71,7 @@ noting_extends s r own = record {
   outbox_is = sym (append_none s.outbox);
 }
 
-pub sent_all_extends : (s : NodeState) (outs : List Out) → Extends s (sent_all s outs)
+sent_all_extends : (s : NodeState) (outs : List Out) → Extends s (sent_all s outs)
 sent_all_extends s outs = record {
   same_me = refl;
   same_acts = refl;
@@ -78,10 +83,38 @@ sent_all_extends s outs = record {
   outbox_is = refl;
 }
 
-pub sent_extends : (s : NodeState) (to : NodeId) (m : Message) → Extends s (sent s to m)
-sent_extends s to m = sent_all_extends s (record { to = to; msg = m } ∷ [])
+enqueued_extends : (s : NodeState) (tx : TxId) (key : Key) → Extends s (enqueued s tx key)
+enqueued_extends s tx key = aside s (enqueued s tx key) refl refl refl refl refl
 
--- a choice between two
-pub either : (s x y : NodeState) (b : Bool) → Extends s x → Extends s y → Extends s (if b then x else y)
-either s x y true first second = first
-either s x y false first second = second
+grants_extends : (s : NodeState) (to : NodeId) (tx : TxId) (top : TopVer) (key : Key) → Extends s (grants s to tx top key)
+grants_extends s to tx top key = andthen s (noting s (note.Grant tx top key)) (grants s to tx top key) (noting_extends s (note.Grant tx top key) refl) (sent_all_extends (noting s (note.Grant tx top key)) _)
+
+placed_extends : (s : NodeState) (from : NodeId) (tx : TxId) (top : TopVer) (key : Key) (owner : Option TxId) → Extends s (placed s from tx top key owner)
+placed_extends s from tx top key None = andthen s (enqueued s tx key) (grants (enqueued s tx key) from tx top key) (enqueued_extends s tx key) (grants_extends (enqueued s tx key) from tx top key)
+placed_extends s from tx top key (Some owner) = andthen s (enqueued s tx key) (noting (enqueued s tx key) (note.Queue tx key owner)) (enqueued_extends s tx key) (noting_extends (enqueued s tx key) (note.Queue tx key owner) refl)
+
+passed_on_extends : (s : NodeState) (key : Key) (was_owner : Bool) (owner : Option TxId) → Extends s (passed_on s key was_owner owner)
+passed_on_extends s key true (Some next) = grants_extends s next.node next (installed_top s) key
+passed_on_extends s key true None = nothing s
+passed_on_extends s key false owner = nothing s
+
+released_extends : (s : NodeState) (tx : TxId) (key : Key) → Extends s (released s tx key)
+released_extends s tx key =
+    let left = leaves s tx key in
+    let after = noting left (note.Drop tx key) in
+    andthen s after (released s tx key)
+    (andthen s left after (aside s left refl refl refl refl refl) (noting_extends left (note.Drop tx key) refl))
+    (passed_on_extends after key (is_owner tx (owner_at s key)) (owner_at after key))
+
+-- every row extends the node
+pub extending : Kit Extends
+extending = record {
+  nothing = nothing;
+  andthen = andthen;
+  aside = λ before after me acts now noted outbox queues. aside before after me acts now noted outbox;
+  noting = λ s r own lockless. noting_extends s r own;
+  sent_all = sent_all_extends;
+  placed = λ s from tx top key. placed_extends s from tx top key (owner_at s key);
+  released = released_extends;
+  owned = λ s tx top key free. andthen s (enqueued s tx key) (noting (enqueued s tx key) (note.Grant tx top key)) (enqueued_extends s tx key) (noting_extends (enqueued s tx key) (note.Grant tx top key) refl);
+}

@@ -1,6 +1,7 @@
 pub mod Accesses
 pub mod Acting
 pub mod Acts
+pub mod ActsKept
 pub mod Backups
 pub mod Closing
 pub mod Commands
@@ -8,7 +9,9 @@ pub mod Decisions
 pub mod Exchange
 pub mod Extending
 pub mod Filling
+pub mod Kits
 pub mod Locks
+pub mod Owners
 pub mod Primary
 pub mod Recovery
 pub mod Searches

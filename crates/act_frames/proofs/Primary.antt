@@ -1,7 +1,5 @@
 -- A primary's part in both phases extends the node.
-use Rattle.std.proofs.Common.{◌++◌, List, [], ◌∷◌, Option, Some, None, Bool, true, false, refl}
-use Rattle.act_frames.specs.Extending.{Extends}
-use Rattle.act_frames.proofs.Extending.{nothing, aside, andthen, sent_extends, sent_all_extends, either}
+use Rattle.std.proofs.Common.{◌++◌, List, [], ◌∷◌, Option, Some, None, Bool, true, false, refl, ◌≡◌}
 use Rattle.std.specs.Prelude.{ℕ}
 use Rattle.act_rows.specs.Decisions.{backup_finish_outs}
 use Rattle.act_rows.specs.Locks.{owns_each, releases}
@@ -28,179 +26,185 @@ use Rattle.ordered_table.specs.Entries.{without}
 use Rattle.ignite_types.specs.declared.scenario.Mode.TheVariants as mode
 use Rattle.ignite_types.specs.declared.message.Message.TheVariants as msg
 use Rattle.act_rows.specs.Primary.{forgetting, check, drawn, drawn_up_to, backups_for, backup_prepare_outs, new_share, begins_share, draws, checked, prepare_in, prepare_row, backup_prepared_in, backup_prepared_by, backup_prepared_row, near_outs, near_waits, begins_finish, commits_share, undoes_share, finishing, adds_asker, finish_at, finish_of, finish_row, backup_finished_at, backup_finished_by, own_backup_finished, near_wait_cmp, near_done_row, ends_finish, share_after, finish_over, is_prepared, goes_on, share_on, shares_on, own_txs, share_left, shares_left, primary_left}
-use Rattle.act_frames.proofs.Locks.{owns_each_extends, releases_extends}
-use Rattle.act_frames.proofs.Steps.{on_share_extends, with_share_extends}
-use Rattle.act_frames.proofs.Stores.{applied_all_extends}
+use Rattle.act_frames.proofs.Locks.{owns_each_kept, releases_kept}
+use Rattle.act_frames.proofs.Steps.{on_share_kept, with_share_kept}
+use Rattle.act_frames.proofs.Stores.{applied_all_kept}
+use Rattle.act_frames.specs.Kits.{Kit}
+use Rattle.act_frames.proofs.Kits.{either_kept, sent_kept}
+use Rattle.act_rows.specs.Primary.{first_changed, wanted_keys}
+use Rattle.base_words.specs.Queues.{first_blocked}
+use Rattle.act_frames.proofs.Owners.{unblocked}
 
-pub forgetting_extends : (s : NodeState) (tx : TxId) → Extends s (forgetting s tx)
-forgetting_extends s tx = aside s (forgetting s tx) refl refl refl refl refl
+module _ (R : NodeState → NodeState → Type 0) (kit : Kit R) where
+  pub forgetting_kept : (s : NodeState) (tx : TxId) → R s (forgetting s tx)
+  forgetting_kept s tx = kit.aside s (forgetting s tx) refl refl refl refl refl refl
 
-pub begins_share_extends : (s : NodeState) (tx : TxId) (top : TopVer) (shares : List Share) (writes : List Stored) (nodes : List NodeId) → Extends s (begins_share s tx top shares writes nodes)
-begins_share_extends s tx top shares writes nodes =
-    andthen s (with_share s tx (new_share top shares writes nodes)) (begins_share s tx top shares writes nodes)
-    (with_share_extends s tx (new_share top shares writes nodes))
-    (sent_all_extends (with_share s tx (new_share top shares writes nodes)) (backup_prepare_outs s tx top shares writes nodes))
+  pub begins_share_kept : (s : NodeState) (tx : TxId) (top : TopVer) (shares : List Share) (writes : List Stored) (nodes : List NodeId) → R s (begins_share s tx top shares writes nodes)
+  begins_share_kept s tx top shares writes nodes =
+      kit.andthen s (with_share s tx (new_share top shares writes nodes)) (begins_share s tx top shares writes nodes)
+      (with_share_kept R kit s tx (new_share top shares writes nodes))
+      (kit.sent_all (with_share s tx (new_share top shares writes nodes)) (backup_prepare_outs s tx top shares writes nodes))
 
-pub draws_extends : (s : NodeState) (tx : TxId) (top : TopVer) (shares : List Share) (writes : List (Key × Option (List ℕ))) → Extends s (draws s tx top shares writes)
-draws_extends s tx top shares writes =
-    andthen s (record s { order = drawn_up_to s.order writes }) (draws s tx top shares writes)
-    (aside s (record s { order = drawn_up_to s.order writes }) refl refl refl refl refl)
-    (begins_share_extends (record s { order = drawn_up_to s.order writes }) tx top shares
-    (drawn top s.me s.order writes) (backups_for s shares))
+  pub draws_kept : (s : NodeState) (tx : TxId) (top : TopVer) (shares : List Share) (writes : List (Key × Option (List ℕ))) → R s (draws s tx top shares writes)
+  draws_kept s tx top shares writes =
+      kit.andthen s (record s { order = drawn_up_to s.order writes }) (draws s tx top shares writes)
+      (kit.aside s (record s { order = drawn_up_to s.order writes }) refl refl refl refl refl refl)
+      (begins_share_kept (record s { order = drawn_up_to s.order writes }) tx top shares
+      (drawn top s.me s.order writes) (backups_for s shares))
 
-pub checked_extends : (s : NodeState) (from : NodeId) (tx : TxId) (top : TopVer) (shares : List Share) (wanted : List Wanted) (writes : List (Key × Option (List ℕ))) (why : Option Fail) → Extends s (checked s from tx top shares wanted writes why)
-checked_extends s from tx top shares wanted writes None =
-    andthen s (owns_each s tx top wanted) (draws (owns_each s tx top wanted) tx top shares writes)
-    (owns_each_extends s tx top wanted)
-    (draws_extends (owns_each s tx top wanted) tx top shares writes)
-checked_extends s from tx top shares wanted writes (Some why) = sent_extends s from (msg.PrepareFail tx why)
+  pub checked_kept : (s : NodeState) (from : NodeId) (tx : TxId) (top : TopVer) (shares : List Share) (wanted : List Wanted) (writes : List (Key × Option (List ℕ))) (why : Option Fail) → check s tx wanted ≡ why → R s (checked s from tx top shares wanted writes why)
+  checked_kept s from tx top shares wanted writes None passed =
+      kit.andthen s (owns_each s tx top wanted) (draws (owns_each s tx top wanted) tx top shares writes)
+      (owns_each_kept R kit s tx top wanted (unblocked (first_blocked s.queues (wanted_keys wanted) tx) (first_changed s wanted) passed))
+      (draws_kept (owns_each s tx top wanted) tx top shares writes)
+  checked_kept s from tx top shares wanted writes (Some why) refused = sent_kept R kit s from (msg.PrepareFail tx why)
 
-pub prepare_in_extends : (s : NodeState) (from : NodeId) (tx : TxId) (top : TopVer) (how : Mode) (shares : List Share) (wanted : List Wanted) (writes : List (Key × Option (List ℕ))) → Extends s (prepare_in s from tx top how shares wanted writes)
-prepare_in_extends s from tx top mode.Pessimistic shares wanted writes = draws_extends s tx top shares writes
-prepare_in_extends s from tx top mode.Optimistic shares wanted writes = checked_extends s from tx top shares wanted writes (check s tx wanted)
+  pub prepare_in_kept : (s : NodeState) (from : NodeId) (tx : TxId) (top : TopVer) (how : Mode) (shares : List Share) (wanted : List Wanted) (writes : List (Key × Option (List ℕ))) → R s (prepare_in s from tx top how shares wanted writes)
+  prepare_in_kept s from tx top mode.Pessimistic shares wanted writes = draws_kept s tx top shares writes
+  prepare_in_kept s from tx top mode.Optimistic shares wanted writes = checked_kept s from tx top shares wanted writes (check s tx wanted) refl
 
-pub prepare_row_extends : (s : NodeState) (from : NodeId) (tx : TxId) (top : TopVer) (how : Mode) (shares : List Share) (wanted : List Wanted) (writes : List (Key × Option (List ℕ))) → Extends s (prepare_row s from tx top how shares wanted writes)
-prepare_row_extends s from tx top how shares wanted writes =
-    andthen s (forgetting s tx) (prepare_in (forgetting s tx) from tx top how shares wanted writes)
-    (forgetting_extends s tx)
-    (prepare_in_extends (forgetting s tx) from tx top how shares wanted writes)
+  pub prepare_row_kept : (s : NodeState) (from : NodeId) (tx : TxId) (top : TopVer) (how : Mode) (shares : List Share) (wanted : List Wanted) (writes : List (Key × Option (List ℕ))) → R s (prepare_row s from tx top how shares wanted writes)
+  prepare_row_kept s from tx top how shares wanted writes =
+      kit.andthen s (forgetting s tx) (prepare_in (forgetting s tx) from tx top how shares wanted writes)
+      (forgetting_kept s tx)
+      (prepare_in_kept (forgetting s tx) from tx top how shares wanted writes)
 
-pub backup_prepared_in_extends : (s : NodeState) (from : NodeId) (tx : TxId) (st : ShareState) → Extends s (backup_prepared_in s from tx st)
-backup_prepared_in_extends s from tx Preparing =
-    on_share_extends s tx (λ (h : OwnShare). record h { awaited = without_member node_cmp h.awaited from }) (share_of s tx)
-backup_prepared_in_extends s from tx Prepared = nothing s
-backup_prepared_in_extends s from tx Committed = nothing s
-backup_prepared_in_extends s from tx Undoing = nothing s
+  pub backup_prepared_in_kept : (s : NodeState) (from : NodeId) (tx : TxId) (st : ShareState) → R s (backup_prepared_in s from tx st)
+  backup_prepared_in_kept s from tx Preparing =
+      on_share_kept R kit s tx (λ (h : OwnShare). record h { awaited = without_member node_cmp h.awaited from }) (share_of s tx)
+  backup_prepared_in_kept s from tx Prepared = kit.nothing s
+  backup_prepared_in_kept s from tx Committed = kit.nothing s
+  backup_prepared_in_kept s from tx Undoing = kit.nothing s
 
-pub backup_prepared_by_extends : (s : NodeState) (from : NodeId) (tx : TxId) (share : Option OwnShare) → Extends s (backup_prepared_by s from tx share)
-backup_prepared_by_extends s from tx None = nothing s
-backup_prepared_by_extends s from tx (Some h) = backup_prepared_in_extends s from tx h.state
+  pub backup_prepared_by_kept : (s : NodeState) (from : NodeId) (tx : TxId) (share : Option OwnShare) → R s (backup_prepared_by s from tx share)
+  backup_prepared_by_kept s from tx None = kit.nothing s
+  backup_prepared_by_kept s from tx (Some h) = backup_prepared_in_kept s from tx h.state
 
-pub backup_prepared_row_extends : (s : NodeState) (from : NodeId) (tx : TxId) → Extends s (backup_prepared_row s from tx)
-backup_prepared_row_extends s from tx = backup_prepared_by_extends s from tx (share_of s tx)
+  pub backup_prepared_row_kept : (s : NodeState) (from : NodeId) (tx : TxId) → R s (backup_prepared_row s from tx)
+  backup_prepared_row_kept s from tx = backup_prepared_by_kept s from tx (share_of s tx)
 
-pub begins_finish_extends : (s : NodeState) (tx : TxId) (st : ShareState) (from : NodeId) (nodes : List NodeId) (near : List NearWait) → Extends s (begins_finish s tx st from nodes near)
-begins_finish_extends s tx st from nodes near =
-    on_share_extends s tx (λ (h : OwnShare). record h { state = st; awaited = nodes; near = near; askers = from ∷ [] }) (share_of s tx)
+  pub begins_finish_kept : (s : NodeState) (tx : TxId) (st : ShareState) (from : NodeId) (nodes : List NodeId) (near : List NearWait) → R s (begins_finish s tx st from nodes near)
+  begins_finish_kept s tx st from nodes near =
+      on_share_kept R kit s tx (λ (h : OwnShare). record h { state = st; awaited = nodes; near = near; askers = from ∷ [] }) (share_of s tx)
 
-pub commits_share_extends : (s : NodeState) (from : NodeId) (tx : TxId) (h : OwnShare) (nodes : List NodeId) → Extends s (commits_share s from tx h nodes)
-commits_share_extends s from tx h nodes =
-    let done = applied_all s tx h.top s.me h.writes in
-    let begun = begins_finish done tx Committed from nodes (near_waits s h.writes) in
-    let outs = backup_finish_outs tx s.me true nodes ++ near_outs s tx h.writes in
-    andthen s begun (sent_all begun outs)
-    (andthen s done begun
-    (applied_all_extends s tx h.top s.me h.writes)
-    (begins_finish_extends done tx Committed from nodes (near_waits s h.writes)))
-    (sent_all_extends begun outs)
+  pub commits_share_kept : (s : NodeState) (from : NodeId) (tx : TxId) (h : OwnShare) (nodes : List NodeId) → R s (commits_share s from tx h nodes)
+  commits_share_kept s from tx h nodes =
+      let done = applied_all s tx h.top s.me h.writes in
+      let begun = begins_finish done tx Committed from nodes (near_waits s h.writes) in
+      let outs = backup_finish_outs tx s.me true nodes ++ near_outs s tx h.writes in
+      kit.andthen s begun (sent_all begun outs)
+      (kit.andthen s done begun
+      (applied_all_kept R kit s tx h.top s.me h.writes)
+      (begins_finish_kept done tx Committed from nodes (near_waits s h.writes)))
+      (kit.sent_all begun outs)
 
-pub undoes_share_extends : (s : NodeState) (from : NodeId) (tx : TxId) (nodes : List NodeId) → Extends s (undoes_share s from tx nodes)
-undoes_share_extends s from tx nodes =
-    andthen s (begins_finish s tx Undoing from nodes []) (undoes_share s from tx nodes)
-    (begins_finish_extends s tx Undoing from nodes [])
-    (sent_all_extends (begins_finish s tx Undoing from nodes []) (backup_finish_outs tx s.me false nodes))
+  pub undoes_share_kept : (s : NodeState) (from : NodeId) (tx : TxId) (nodes : List NodeId) → R s (undoes_share s from tx nodes)
+  undoes_share_kept s from tx nodes =
+      kit.andthen s (begins_finish s tx Undoing from nodes []) (undoes_share s from tx nodes)
+      (begins_finish_kept s tx Undoing from nodes [])
+      (kit.sent_all (begins_finish s tx Undoing from nodes []) (backup_finish_outs tx s.me false nodes))
 
-pub finishing_extends : (s : NodeState) (from : NodeId) (tx : TxId) (commit : Bool) (h : OwnShare) (st : ShareState) → Extends s (finishing s from tx commit h st)
-finishing_extends s from tx true h Prepared = commits_share_extends s from tx h (backups_for s h.shares)
-finishing_extends s from tx true h Preparing = sent_extends s from (msg.Finished tx)
-finishing_extends s from tx true h Committed = sent_extends s from (msg.Finished tx)
-finishing_extends s from tx true h Undoing = sent_extends s from (msg.Finished tx)
-finishing_extends s from tx false h Prepared = undoes_share_extends s from tx (backups_for s h.shares)
-finishing_extends s from tx false h Preparing = undoes_share_extends s from tx (backups_for s h.shares)
-finishing_extends s from tx false h Committed = sent_extends s from (msg.Finished tx)
-finishing_extends s from tx false h Undoing = sent_extends s from (msg.Finished tx)
+  pub finishing_kept : (s : NodeState) (from : NodeId) (tx : TxId) (commit : Bool) (h : OwnShare) (st : ShareState) → R s (finishing s from tx commit h st)
+  finishing_kept s from tx true h Prepared = commits_share_kept s from tx h (backups_for s h.shares)
+  finishing_kept s from tx true h Preparing = sent_kept R kit s from (msg.Finished tx)
+  finishing_kept s from tx true h Committed = sent_kept R kit s from (msg.Finished tx)
+  finishing_kept s from tx true h Undoing = sent_kept R kit s from (msg.Finished tx)
+  finishing_kept s from tx false h Prepared = undoes_share_kept s from tx (backups_for s h.shares)
+  finishing_kept s from tx false h Preparing = undoes_share_kept s from tx (backups_for s h.shares)
+  finishing_kept s from tx false h Committed = sent_kept R kit s from (msg.Finished tx)
+  finishing_kept s from tx false h Undoing = sent_kept R kit s from (msg.Finished tx)
 
-pub adds_asker_extends : (s : NodeState) (tx : TxId) (from : NodeId) → Extends s (adds_asker s tx from)
-adds_asker_extends s tx from =
-    on_share_extends s tx (λ (h : OwnShare). record h { askers = with_member node_cmp h.askers from }) (share_of s tx)
+  pub adds_asker_kept : (s : NodeState) (tx : TxId) (from : NodeId) → R s (adds_asker s tx from)
+  adds_asker_kept s tx from =
+      on_share_kept R kit s tx (λ (h : OwnShare). record h { askers = with_member node_cmp h.askers from }) (share_of s tx)
 
-pub finish_at_extends : (s : NodeState) (from : NodeId) (tx : TxId) (commit : Bool) (h : OwnShare) (askers : List NodeId) → Extends s (finish_at s from tx commit h askers)
-finish_at_extends s from tx commit h [] = finishing_extends s from tx commit h h.state
-finish_at_extends s from tx commit h (asker ∷ more) = adds_asker_extends s tx from
+  pub finish_at_kept : (s : NodeState) (from : NodeId) (tx : TxId) (commit : Bool) (h : OwnShare) (askers : List NodeId) → R s (finish_at s from tx commit h askers)
+  finish_at_kept s from tx commit h [] = finishing_kept s from tx commit h h.state
+  finish_at_kept s from tx commit h (asker ∷ more) = adds_asker_kept s tx from
 
-pub finish_of_extends : (s : NodeState) (from : NodeId) (tx : TxId) (commit : Bool) (share : Option OwnShare) → Extends s (finish_of s from tx commit share)
-finish_of_extends s from tx commit None =
-    andthen s (releases s tx) (sent (releases s tx) from (msg.Finished tx))
-    (releases_extends s tx)
-    (sent_extends (releases s tx) from (msg.Finished tx))
-finish_of_extends s from tx commit (Some h) = finish_at_extends s from tx commit h h.askers
+  pub finish_of_kept : (s : NodeState) (from : NodeId) (tx : TxId) (commit : Bool) (share : Option OwnShare) → R s (finish_of s from tx commit share)
+  finish_of_kept s from tx commit None =
+      kit.andthen s (releases s tx) (sent (releases s tx) from (msg.Finished tx))
+      (releases_kept R kit s tx)
+      (sent_kept R kit (releases s tx) from (msg.Finished tx))
+  finish_of_kept s from tx commit (Some h) = finish_at_kept s from tx commit h h.askers
 
-pub finish_row_extends : (s : NodeState) (from : NodeId) (tx : TxId) (commit : Bool) → Extends s (finish_row s from tx commit)
-finish_row_extends s from tx commit = finish_of_extends s from tx commit (share_of s tx)
+  pub finish_row_kept : (s : NodeState) (from : NodeId) (tx : TxId) (commit : Bool) → R s (finish_row s from tx commit)
+  finish_row_kept s from tx commit = finish_of_kept s from tx commit (share_of s tx)
 
-pub backup_finished_at_extends : (s : NodeState) (from : NodeId) (tx : TxId) (askers : List NodeId) → Extends s (backup_finished_at s from tx askers)
-backup_finished_at_extends s from tx [] = nothing s
-backup_finished_at_extends s from tx (asker ∷ more) =
-    on_share_extends s tx (λ (h : OwnShare). record h { awaited = without_member node_cmp h.awaited from }) (share_of s tx)
+  pub backup_finished_at_kept : (s : NodeState) (from : NodeId) (tx : TxId) (askers : List NodeId) → R s (backup_finished_at s from tx askers)
+  backup_finished_at_kept s from tx [] = kit.nothing s
+  backup_finished_at_kept s from tx (asker ∷ more) =
+      on_share_kept R kit s tx (λ (h : OwnShare). record h { awaited = without_member node_cmp h.awaited from }) (share_of s tx)
 
-pub backup_finished_by_extends : (s : NodeState) (from : NodeId) (tx : TxId) (share : Option OwnShare) → Extends s (backup_finished_by s from tx share)
-backup_finished_by_extends s from tx None = nothing s
-backup_finished_by_extends s from tx (Some h) = backup_finished_at_extends s from tx h.askers
+  pub backup_finished_by_kept : (s : NodeState) (from : NodeId) (tx : TxId) (share : Option OwnShare) → R s (backup_finished_by s from tx share)
+  backup_finished_by_kept s from tx None = kit.nothing s
+  backup_finished_by_kept s from tx (Some h) = backup_finished_at_kept s from tx h.askers
 
-pub own_backup_finished_extends : (s : NodeState) (from : NodeId) (tx : TxId) (primary : NodeId) → Extends s (own_backup_finished s from tx primary)
-own_backup_finished_extends s from tx primary =
-    either s (backup_finished_by s from tx (share_of s tx)) s (same_node primary s.me)
-    (backup_finished_by_extends s from tx (share_of s tx))
-    (nothing s)
+  pub own_backup_finished_kept : (s : NodeState) (from : NodeId) (tx : TxId) (primary : NodeId) → R s (own_backup_finished s from tx primary)
+  own_backup_finished_kept s from tx primary =
+      either_kept R kit s (backup_finished_by s from tx (share_of s tx)) s (same_node primary s.me)
+      (backup_finished_by_kept s from tx (share_of s tx))
+      (kit.nothing s)
 
-pub near_done_row_extends : (s : NodeState) (from : NodeId) (tx : TxId) (key : Key) → Extends s (near_done_row s from tx key)
-near_done_row_extends s from tx key = on_share_extends s tx (λ (h : OwnShare). record h {
-  near = without_member near_wait_cmp h.near (record { key = key; node = from });
-}) (share_of s tx)
+  pub near_done_row_kept : (s : NodeState) (from : NodeId) (tx : TxId) (key : Key) → R s (near_done_row s from tx key)
+  near_done_row_kept s from tx key = on_share_kept R kit s tx (λ (h : OwnShare). record h {
+    near = without_member near_wait_cmp h.near (record { key = key; node = from });
+  }) (share_of s tx)
 
-pub ends_finish_extends : (s : NodeState) (tx : TxId) → Extends s (ends_finish s tx)
-ends_finish_extends s tx = on_share_extends s tx (λ (h : OwnShare). record h { askers = [] }) (share_of s tx)
+  pub ends_finish_kept : (s : NodeState) (tx : TxId) → R s (ends_finish s tx)
+  ends_finish_kept s tx = on_share_kept R kit s tx (λ (h : OwnShare). record h { askers = [] }) (share_of s tx)
 
-pub share_after_extends : (s : NodeState) (tx : TxId) (st : ShareState) → Extends s (share_after s tx st)
-share_after_extends s tx Undoing = aside s (record s { shares = without tx_cmp s.shares tx }) refl refl refl refl refl
-share_after_extends s tx Preparing = ends_finish_extends s tx
-share_after_extends s tx Prepared = ends_finish_extends s tx
-share_after_extends s tx Committed = ends_finish_extends s tx
+  pub share_after_kept : (s : NodeState) (tx : TxId) (st : ShareState) → R s (share_after s tx st)
+  share_after_kept s tx Undoing = kit.aside s (record s { shares = without tx_cmp s.shares tx }) refl refl refl refl refl refl
+  share_after_kept s tx Preparing = ends_finish_kept s tx
+  share_after_kept s tx Prepared = ends_finish_kept s tx
+  share_after_kept s tx Committed = ends_finish_kept s tx
 
-pub finish_over_extends : (s : NodeState) (tx : TxId) (h : OwnShare) → Extends s (finish_over s tx h)
-finish_over_extends s tx h =
-    let left = releases s tx in
-    let after = share_after left tx h.state in
-    andthen s after (sent_all after (outs_to h.askers (msg.Finished tx)))
-    (andthen s left after (releases_extends s tx) (share_after_extends left tx h.state))
-    (sent_all_extends after (outs_to h.askers (msg.Finished tx)))
+  pub finish_over_kept : (s : NodeState) (tx : TxId) (h : OwnShare) → R s (finish_over s tx h)
+  finish_over_kept s tx h =
+      let left = releases s tx in
+      let after = share_after left tx h.state in
+      kit.andthen s after (sent_all after (outs_to h.askers (msg.Finished tx)))
+      (kit.andthen s left after (releases_kept R kit s tx) (share_after_kept left tx h.state))
+      (kit.sent_all after (outs_to h.askers (msg.Finished tx)))
 
-pub is_prepared_extends : (s : NodeState) (tx : TxId) → Extends s (is_prepared s tx)
-is_prepared_extends s tx =
-    let after = on_share s tx (λ (h : OwnShare). record h { state = Prepared }) (share_of s tx) in
-    andthen s after (sent after tx.node (msg.Prepared tx))
-    (on_share_extends s tx (λ (h : OwnShare). record h { state = Prepared }) (share_of s tx))
-    (sent_extends after tx.node (msg.Prepared tx))
+  pub is_prepared_kept : (s : NodeState) (tx : TxId) → R s (is_prepared s tx)
+  is_prepared_kept s tx =
+      let after = on_share s tx (λ (h : OwnShare). record h { state = Prepared }) (share_of s tx) in
+      kit.andthen s after (sent after tx.node (msg.Prepared tx))
+      (on_share_kept R kit s tx (λ (h : OwnShare). record h { state = Prepared }) (share_of s tx))
+      (sent_kept R kit after tx.node (msg.Prepared tx))
 
-pub goes_on_extends : (s : NodeState) (tx : TxId) (h : OwnShare) (awaited : List NodeId) (near : List NearWait) (askers : List NodeId) (st : ShareState) → Extends s (goes_on s tx h awaited near askers st)
-goes_on_extends s tx h [] [] (asker ∷ more) st = finish_over_extends s tx h
-goes_on_extends s tx h [] [] [] Preparing = is_prepared_extends s tx
-goes_on_extends s tx h [] [] [] Prepared = nothing s
-goes_on_extends s tx h [] [] [] Committed = nothing s
-goes_on_extends s tx h [] [] [] Undoing = nothing s
-goes_on_extends s tx h [] (wait ∷ waits) [] Preparing = is_prepared_extends s tx
-goes_on_extends s tx h [] (wait ∷ waits) [] Prepared = nothing s
-goes_on_extends s tx h [] (wait ∷ waits) [] Committed = nothing s
-goes_on_extends s tx h [] (wait ∷ waits) [] Undoing = nothing s
-goes_on_extends s tx h [] (wait ∷ waits) (asker ∷ more) st = nothing s
-goes_on_extends s tx h (first ∷ rest) near askers st = nothing s
+  pub goes_on_kept : (s : NodeState) (tx : TxId) (h : OwnShare) (awaited : List NodeId) (near : List NearWait) (askers : List NodeId) (st : ShareState) → R s (goes_on s tx h awaited near askers st)
+  goes_on_kept s tx h [] [] (asker ∷ more) st = finish_over_kept s tx h
+  goes_on_kept s tx h [] [] [] Preparing = is_prepared_kept s tx
+  goes_on_kept s tx h [] [] [] Prepared = kit.nothing s
+  goes_on_kept s tx h [] [] [] Committed = kit.nothing s
+  goes_on_kept s tx h [] [] [] Undoing = kit.nothing s
+  goes_on_kept s tx h [] (wait ∷ waits) [] Preparing = is_prepared_kept s tx
+  goes_on_kept s tx h [] (wait ∷ waits) [] Prepared = kit.nothing s
+  goes_on_kept s tx h [] (wait ∷ waits) [] Committed = kit.nothing s
+  goes_on_kept s tx h [] (wait ∷ waits) [] Undoing = kit.nothing s
+  goes_on_kept s tx h [] (wait ∷ waits) (asker ∷ more) st = kit.nothing s
+  goes_on_kept s tx h (first ∷ rest) near askers st = kit.nothing s
 
-pub share_on_extends : (s : NodeState) (tx : TxId) (share : Option OwnShare) → Extends s (share_on s tx share)
-share_on_extends s tx None = nothing s
-share_on_extends s tx (Some h) = goes_on_extends s tx h h.awaited h.near h.askers h.state
+  pub share_on_kept : (s : NodeState) (tx : TxId) (share : Option OwnShare) → R s (share_on s tx share)
+  share_on_kept s tx None = kit.nothing s
+  share_on_kept s tx (Some h) = goes_on_kept s tx h h.awaited h.near h.askers h.state
 
-pub shares_on_extends : (s : NodeState) (txs : List TxId) → Extends s (shares_on s txs)
-shares_on_extends s [] = nothing s
-shares_on_extends s (tx ∷ txs) = let next = share_on s tx (share_of s tx) in
-    andthen s next (shares_on next txs) (share_on_extends s tx (share_of s tx)) (shares_on_extends next txs)
+  pub shares_on_kept : (s : NodeState) (txs : List TxId) → R s (shares_on s txs)
+  shares_on_kept s [] = kit.nothing s
+  shares_on_kept s (tx ∷ txs) = let next = share_on s tx (share_of s tx) in
+      kit.andthen s next (shares_on next txs) (share_on_kept s tx (share_of s tx)) (shares_on_kept next txs)
 
-pub shares_left_extends : (s : NodeState) (id : NodeId) (txs : List TxId) → Extends s (shares_left s id txs)
-shares_left_extends s id [] = nothing s
-shares_left_extends s id (tx ∷ txs) = let next = on_share s tx (share_left id) (share_of s tx) in
-    andthen s next (shares_left next id txs) (on_share_extends s tx (share_left id) (share_of s tx)) (shares_left_extends next id txs)
+  pub shares_left_kept : (s : NodeState) (id : NodeId) (txs : List TxId) → R s (shares_left s id txs)
+  shares_left_kept s id [] = kit.nothing s
+  shares_left_kept s id (tx ∷ txs) = let next = on_share s tx (share_left id) (share_of s tx) in
+      kit.andthen s next (shares_left next id txs) (on_share_kept R kit s tx (share_left id) (share_of s tx)) (shares_left_kept next id txs)
 
-pub primary_left_extends : (s : NodeState) (id : NodeId) → Extends s (primary_left s id)
-primary_left_extends s id = let here = shares_left s id (own_txs s) in
-    andthen s here (record here { readers = without_reader here.readers id })
-    (shares_left_extends s id (own_txs s))
-    (aside here (record here { readers = without_reader here.readers id }) refl refl refl refl refl)
+  pub primary_left_kept : (s : NodeState) (id : NodeId) → R s (primary_left s id)
+  primary_left_kept s id = let here = shares_left s id (own_txs s) in
+      kit.andthen s here (record here { readers = without_reader here.readers id })
+      (shares_left_kept s id (own_txs s))
+      (kit.aside here (record here { readers = without_reader here.readers id }) refl refl refl refl refl refl)

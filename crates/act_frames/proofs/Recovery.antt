@@ -1,9 +1,7 @@
 -- What becomes of the transactions of a lost starter: each row extends the node.
 use Rattle.std.proofs.Common.{List, [], ◌∷◌, Option, Some, None, Bool, true, refl}
 use Rattle.std.specs.Prelude.{not, ℕ, ◌&&◌, ◌++◌}
-use Rattle.act_frames.proofs.Extending.{andthen, aside, either, nothing, noting_extends, sent_all_extends}
-use Rattle.act_frames.proofs.Steps.{sent_to_oldest_extends}
-use Rattle.act_frames.specs.Extending.{Extends}
+use Rattle.act_frames.proofs.Steps.{sent_to_oldest_kept}
 use Rattle.act_rows.specs.Decisions.{finishes_for_lost, orphaned}
 use Rattle.act_rows.specs.Recovery.{acts_on_round, all_reported, awaits_backups, awaits_finishes, awaits_verdict, backup_wait_cmp, begins_round, finish_nodes, finish_wait_cmp, gives_verdict, has_acted, is_recoverer, judges, judges_each, lockers, names_of, on_round, orphans_for, orphans_message, orphans_row, primaries_of, recovers_if_all, recovers_with, recovery_backup_finished, recovery_finished, reports_for, reports_more, sends_orphans, starts_round}
 use Rattle.act_rows.specs.Steps.{lost_among, noting, oldest_seen, outs_to, sent_all}
@@ -22,89 +20,92 @@ use Rattle.ordered_set.specs.Members.{without_member}
 use Rattle.ordered_table.specs.Entries.{at, put}
 use Rattle.ignite_types.specs.declared.message.Message.TheVariants as msg
 use Rattle.ignite_types.specs.declared.journal.Rec.TheVariants as note
+use Rattle.act_frames.specs.Kits.{Kit}
+use Rattle.act_frames.proofs.Kits.{either_kept}
 
--- A loss begins a new round.
+module _ (R : NodeState → NodeState → Type 0) (kit : Kit R) where
+  -- A loss begins a new round.
 
-pub sends_orphans_extends : (s : NodeState) (round : ℕ) → Extends s (sends_orphans s round)
-sends_orphans_extends s round = sent_to_oldest_extends s (orphans_message s round) (oldest_seen s)
+  pub sends_orphans_kept : (s : NodeState) (round : ℕ) → R s (sends_orphans s round)
+  sends_orphans_kept s round = sent_to_oldest_kept R kit s (orphans_message s round) (oldest_seen s)
 
-pub starts_round_extends : (s : NodeState) (place : ℕ) → Extends s (starts_round s place)
-starts_round_extends s place = aside s (starts_round s place) refl refl refl refl refl
+  pub starts_round_kept : (s : NodeState) (place : ℕ) → R s (starts_round s place)
+  starts_round_kept s place = kit.aside s (starts_round s place) refl refl refl refl refl refl
 
-pub begins_round_extends : (s : NodeState) (place : ℕ) → Extends s (begins_round s place)
-begins_round_extends s place = andthen s (starts_round s place) (sends_orphans (starts_round s place) place)
-    (starts_round_extends s place) (sends_orphans_extends (starts_round s place) place)
+  pub begins_round_kept : (s : NodeState) (place : ℕ) → R s (begins_round s place)
+  begins_round_kept s place = kit.andthen s (starts_round s place) (sends_orphans (starts_round s place) place)
+      (starts_round_kept s place) (sends_orphans_kept (starts_round s place) place)
 
--- The verdicts.
+  -- The verdicts.
 
-pub on_round_extends : (s : NodeState) (f : Round → Round) (found : Option Round) → Extends s (on_round s f found)
-on_round_extends s f None = nothing s
-on_round_extends s f (Some r) = aside s (record s { round = Some (f r) }) refl refl refl refl refl
+  pub on_round_kept : (s : NodeState) (f : Round → Round) (found : Option Round) → R s (on_round s f found)
+  on_round_kept s f None = kit.nothing s
+  on_round_kept s f (Some r) = kit.aside s (record s { round = Some (f r) }) refl refl refl refl refl refl
 
-pub awaits_verdict_extends : (s : NodeState) (tx : TxId) (nodes : List NodeId) (backups : List Share) → Extends s (awaits_verdict s tx nodes backups)
-awaits_verdict_extends s tx nodes backups = on_round_extends s (λ (r : Round). record r {
-  finishes = awaits_finishes r.finishes tx nodes;
-  backups = awaits_backups r.backups tx backups;
-}) s.round
+  pub awaits_verdict_kept : (s : NodeState) (tx : TxId) (nodes : List NodeId) (backups : List Share) → R s (awaits_verdict s tx nodes backups)
+  awaits_verdict_kept s tx nodes backups = on_round_kept s (λ (r : Round). record r {
+    finishes = awaits_finishes r.finishes tx nodes;
+    backups = awaits_backups r.backups tx backups;
+  }) s.round
 
-pub gives_verdict_extends : (s : NodeState) (tx : TxId) (commit : Bool) (shares : List Share) (nodes : List NodeId) → Extends s (gives_verdict s tx commit shares nodes)
-gives_verdict_extends s tx commit shares nodes =
-    let kept : NodeState = record s { verdicts = put tx_cmp s.verdicts tx commit } in
-    let noted : NodeState = noting kept (note.Decide tx commit) in
-    let awaiting : NodeState = awaits_verdict noted tx (finish_nodes s shares nodes) (orphaned s shares) in
-    let outs : List Out = outs_to (finish_nodes s shares nodes) (msg.Finish tx commit)
-    ++ finishes_for_lost s tx commit shares (lost_among s (primaries_of shares)) in
-    andthen s noted (sent_all awaiting outs)
-    (andthen s kept noted (aside s kept refl refl refl refl refl) (noting_extends kept (note.Decide tx commit) refl))
-    (andthen noted awaiting (sent_all awaiting outs)
-    (awaits_verdict_extends noted tx (finish_nodes s shares nodes) (orphaned s shares)) (sent_all_extends awaiting outs))
+  pub gives_verdict_kept : (s : NodeState) (tx : TxId) (commit : Bool) (shares : List Share) (nodes : List NodeId) → R s (gives_verdict s tx commit shares nodes)
+  gives_verdict_kept s tx commit shares nodes =
+      let kept : NodeState = record s { verdicts = put tx_cmp s.verdicts tx commit } in
+      let noted : NodeState = noting kept (note.Decide tx commit) in
+      let awaiting : NodeState = awaits_verdict noted tx (finish_nodes s shares nodes) (orphaned s shares) in
+      let outs : List Out = outs_to (finish_nodes s shares nodes) (msg.Finish tx commit)
+      ++ finishes_for_lost s tx commit shares (lost_among s (primaries_of shares)) in
+      kit.andthen s noted (sent_all awaiting outs)
+      (kit.andthen s kept noted (kit.aside s kept refl refl refl refl refl refl) (kit.noting kept (note.Decide tx commit) refl refl))
+      (kit.andthen noted awaiting (sent_all awaiting outs)
+      (awaits_verdict_kept noted tx (finish_nodes s shares nodes) (orphaned s shares)) (kit.sent_all awaiting outs))
 
-pub judges_extends : (s : NodeState) (tx : TxId) (members : List Member) (orphans : List Orphan) (nodes : List NodeId) → Extends s (judges s tx members orphans nodes)
-judges_extends s tx members orphans nodes =
-    either s s (gives_verdict s tx (verdict (at tx_cmp s.verdicts tx) orphans members) (shares_named orphans) nodes) (is_settled orphans)
-    (nothing s)
-    (gives_verdict_extends s tx (verdict (at tx_cmp s.verdicts tx) orphans members) (shares_named orphans) nodes)
+  pub judges_kept : (s : NodeState) (tx : TxId) (members : List Member) (orphans : List Orphan) (nodes : List NodeId) → R s (judges s tx members orphans nodes)
+  judges_kept s tx members orphans nodes =
+      either_kept R kit s s (gives_verdict s tx (verdict (at tx_cmp s.verdicts tx) orphans members) (shares_named orphans) nodes) (is_settled orphans)
+      (kit.nothing s)
+      (gives_verdict_kept s tx (verdict (at tx_cmp s.verdicts tx) orphans members) (shares_named orphans) nodes)
 
-pub judges_each_extends : (s : NodeState) (members : List Member) (reports : List Report) (txs : List TxId) → Extends s (judges_each s members reports txs)
-judges_each_extends s members reports [] = nothing s
-judges_each_extends s members reports (tx ∷ txs) =
-    let judged : NodeState = judges s tx members (orphans_for tx reports) (lockers tx reports) in
-    andthen s judged (judges_each judged members reports txs)
-    (judges_extends s tx members (orphans_for tx reports) (lockers tx reports)) (judges_each_extends judged members reports txs)
+  pub judges_each_kept : (s : NodeState) (members : List Member) (reports : List Report) (txs : List TxId) → R s (judges_each s members reports txs)
+  judges_each_kept s members reports [] = kit.nothing s
+  judges_each_kept s members reports (tx ∷ txs) =
+      let judged : NodeState = judges s tx members (orphans_for tx reports) (lockers tx reports) in
+      kit.andthen s judged (judges_each judged members reports txs)
+      (judges_kept s tx members (orphans_for tx reports) (lockers tx reports)) (judges_each_kept judged members reports txs)
 
-pub has_acted_extends : (s : NodeState) → Extends s (has_acted s)
-has_acted_extends s = on_round_extends s (λ (r : Round). record r { acted = true }) s.round
+  pub has_acted_kept : (s : NodeState) → R s (has_acted s)
+  has_acted_kept s = on_round_kept s (λ (r : Round). record r { acted = true }) s.round
 
-pub acts_on_round_extends : (s : NodeState) (members : List Member) (reports : List Report) → Extends s (acts_on_round s members reports)
-acts_on_round_extends s members reports =
-    andthen s (has_acted s) (judges_each (has_acted s) members reports (names_of reports))
-    (has_acted_extends s) (judges_each_extends (has_acted s) members reports (names_of reports))
+  pub acts_on_round_kept : (s : NodeState) (members : List Member) (reports : List Report) → R s (acts_on_round s members reports)
+  acts_on_round_kept s members reports =
+      kit.andthen s (has_acted s) (judges_each (has_acted s) members reports (names_of reports))
+      (has_acted_kept s) (judges_each_kept (has_acted s) members reports (names_of reports))
 
-pub recovers_with_extends : (s : NodeState) (r : Round) (reports : List Report) → Extends s (recovers_with s r reports)
-recovers_with_extends s r reports = either s (acts_on_round s r.members reports) s (all_reported r.members reports)
-    (acts_on_round_extends s r.members reports) (nothing s)
+  pub recovers_with_kept : (s : NodeState) (r : Round) (reports : List Report) → R s (recovers_with s r reports)
+  recovers_with_kept s r reports = either_kept R kit s (acts_on_round s r.members reports) s (all_reported r.members reports)
+      (acts_on_round_kept s r.members reports) (kit.nothing s)
 
-pub recovers_if_all_extends : (s : NodeState) (found : Option Round) → Extends s (recovers_if_all s found)
-recovers_if_all_extends s None = nothing s
-recovers_if_all_extends s (Some r) = either s (recovers_with s r (reports_for s.reports r.place)) s (is_recoverer s r && not r.acted)
-    (recovers_with_extends s r (reports_for s.reports r.place)) (nothing s)
+  pub recovers_if_all_kept : (s : NodeState) (found : Option Round) → R s (recovers_if_all s found)
+  recovers_if_all_kept s None = kit.nothing s
+  recovers_if_all_kept s (Some r) = either_kept R kit s (recovers_with s r (reports_for s.reports r.place)) s (is_recoverer s r && not r.acted)
+      (recovers_with_kept s r (reports_for s.reports r.place)) (kit.nothing s)
 
-pub reports_more_extends : (s : NodeState) (r : Report) → Extends s (reports_more s r)
-reports_more_extends s r = aside s (reports_more s r) refl refl refl refl refl
+  pub reports_more_kept : (s : NodeState) (r : Report) → R s (reports_more s r)
+  reports_more_kept s r = kit.aside s (reports_more s r) refl refl refl refl refl refl
 
-pub orphans_row_extends : (s : NodeState) (from : NodeId) (round : ℕ) (list : List Orphan) → Extends s (orphans_row s from round list)
-orphans_row_extends s from round list = let here : NodeState = record s {
-  reports = s.reports ++ record { round = round; from = from; list = list } ∷ [];
-} in andthen s here (recovers_if_all here here.round) (aside s here refl refl refl refl refl) (recovers_if_all_extends here here.round)
+  pub orphans_row_kept : (s : NodeState) (from : NodeId) (round : ℕ) (list : List Orphan) → R s (orphans_row s from round list)
+  orphans_row_kept s from round list = let here : NodeState = record s {
+    reports = s.reports ++ record { round = round; from = from; list = list } ∷ [];
+  } in kit.andthen s here (recovers_if_all here here.round) (kit.aside s here refl refl refl refl refl refl) (recovers_if_all_kept here here.round)
 
--- answers to the recoverer
+  -- answers to the recoverer
 
-pub recovery_finished_extends : (s : NodeState) (from : NodeId) (tx : TxId) → Extends s (recovery_finished s from tx)
-recovery_finished_extends s from tx = on_round_extends s (λ (r : Round). record r {
-  finishes = without_member finish_wait_cmp r.finishes (record { tx = tx; node = from });
-}) s.round
+  pub recovery_finished_kept : (s : NodeState) (from : NodeId) (tx : TxId) → R s (recovery_finished s from tx)
+  recovery_finished_kept s from tx = on_round_kept s (λ (r : Round). record r {
+    finishes = without_member finish_wait_cmp r.finishes (record { tx = tx; node = from });
+  }) s.round
 
-pub recovery_backup_finished_extends : (s : NodeState) (from : NodeId) (tx : TxId) (primary : NodeId) → Extends s (recovery_backup_finished s from tx primary)
-recovery_backup_finished_extends s from tx primary = on_round_extends s (λ (r : Round). record r {
-  backups = without_member backup_wait_cmp r.backups (record { tx = tx; primary = primary; holder = from });
-}) s.round
+  pub recovery_backup_finished_kept : (s : NodeState) (from : NodeId) (tx : TxId) (primary : NodeId) → R s (recovery_backup_finished s from tx primary)
+  recovery_backup_finished_kept s from tx primary = on_round_kept s (λ (r : Round). record r {
+    backups = without_member backup_wait_cmp r.backups (record { tx = tx; primary = primary; holder = from });
+  }) s.round

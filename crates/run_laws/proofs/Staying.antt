@@ -1,8 +1,9 @@
 -- Every event leaves these things alone.
 use Rattle.std.proofs.Common.{◌≡◌, ◌++◌, ℕ, suc, List, [], ◌∷◌, Option, Some, None, Bool, true, false, if◌then◌else◌, fold, map, length, slice_get, slice_set, refl, ap, sym, ◌∙◌}
 use Rattle.act_frames.proofs.Acts as acts
-use Rattle.act_frames.proofs.Exchange.{without_single_extends}
-use Rattle.act_frames.proofs.Extending.{append_none, append_twice}
+use Rattle.act_frames.proofs.Exchange.{without_single_kept}
+use Rattle.act_frames.proofs.Extending.{append_none, append_twice, extending}
+use Rattle.act_frames.specs.Extending.{Extends}
 use Rattle.act_rows.specs.Acts.{Acted, answer_act, begun, call_act, expire_act, join_act, may_answer, message_act, minor_act, oldest_out, see_act, sends}
 use Rattle.act_rows.specs.Exchange.{learned, learns, without_single}
 use Rattle.base_words.specs.Directory.{Directory, appended, event_at, gave_answer, joined, loss_refused, next_step, step_done}
@@ -206,7 +207,7 @@ after_loss id p =
     elim (same_node p.node.me id) as (λ b. (if b then record { node = p.node; life = life.Gone } else if is_alive p.life then record { node = without_single p.node id; life = p.life } else p).node.me ≡ p.node.me) [
       | true ↦ refl
       | false ↦ elim (is_alive p.life) as (λ b. (if b then record { node = without_single p.node id; life = p.life } else p).node.me ≡ p.node.me) [
-        | true ↦ (without_single_extends p.node id).same_me
+        | true ↦ (without_single_kept Extends extending p.node id).same_me
         | false ↦ refl
       ]
     ]
@@ -216,7 +217,7 @@ loss_in_time clock id p one =
     elim (same_node p.node.me id) as (λ b. let q : Part = (if b then record { node = p.node; life = life.Gone } else if is_alive p.life then record { node = without_single p.node id; life = p.life } else p) in is_alive q.life ≡ true → q.node.now ≡ clock) [
       | true ↦ λ gone. absurd (cc)
       | false ↦ elim (is_alive p.life) as (λ b. let q : Part = (if b then record { node = without_single p.node id; life = p.life } else p) in is_alive q.life ≡ true → q.node.now ≡ clock) [
-        | true ↦ λ alive. (without_single_extends p.node id).same_now ∙ one alive
+        | true ↦ λ alive. (without_single_kept Extends extending p.node id).same_now ∙ one alive
         | false ↦ one
       ]
     ]
