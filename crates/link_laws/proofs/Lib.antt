@@ -1,0 +1,12 @@
+pub mod SameMessages
+pub mod Journals
+pub mod Places
+pub mod LinkTables
+pub mod Frames
+pub mod NodeEvents
+pub mod OneRecord
+pub mod LinkEvents
+pub mod Joiners
+pub mod PlanEvents
+pub mod Openings
+pub mod Runs
