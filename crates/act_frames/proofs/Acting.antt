@@ -7,7 +7,7 @@ use Rattle.act_frames.proofs.Extending.{append_twice}
 use Rattle.act_rows.specs.Acts.{begun, over}
 use Rattle.act_rows.specs.Steps.{noting}
 use Rattle.ignite_types.specs.declared.journal.Rec.{Rec}
-use Rattle.node_state.specs.declared.node.NodeState.{NodeState}
+use Rattle.node_state.specs.Node.{NodeState}
 
 -- the act of a row that extends the node
 leaves : (s after : NodeState) → Extends (begun s) after → Leaves s (over after).state

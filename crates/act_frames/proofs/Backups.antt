@@ -10,7 +10,7 @@ use Rattle.ignite_types.specs.declared.names.TxId.{TxId}
 use Rattle.ignite_types.specs.declared.placement.Share.{Share}
 use Rattle.ignite_types.specs.declared.placement.ShareState.{ShareState}
 use Rattle.ignite_types.specs.declared.placement.ShareState.TheVariants.{Committed, Prepared}
-use Rattle.node_state.specs.declared.node.NodeState.{NodeState}
+use Rattle.node_state.specs.Node.{NodeState}
 use Rattle.node_state.specs.declared.primary.BackupShare.{BackupShare}
 use Rattle.ignite_types.specs.declared.message.Message.TheVariants as msg
 use Rattle.act_rows.specs.Backups.{backup_prepare_row, commits_backup, drops_backup, finishes_backup, backup_finish_by, backup_finish_row}

@@ -9,7 +9,7 @@ use Rattle.ignite_types.specs.declared.names.TxId.{TxId}
 use Rattle.ignite_types.specs.declared.placement.Share.{Share}
 use Rattle.node_state.specs.declared.near.TxEntry.{TxEntry}
 use Rattle.node_state.specs.declared.near.TxState.{TxState}
-use Rattle.node_state.specs.declared.node.NodeState.{NodeState}
+use Rattle.node_state.specs.Node.{NodeState}
 use Rattle.ignite_types.specs.declared.message.Message.TheVariants as msg
 use Rattle.node_state.specs.declared.near.TxState.TheVariants as state
 use Rattle.act_rows.specs.Closing.{phase_over, near_on_lists, near_on_entry, near_on_each, near_on, owes_single, sends_single, single_if_drained, closed}

@@ -12,7 +12,7 @@ use Rattle.ignite_types.specs.declared.names.NodeId.{NodeId}
 use Rattle.ignite_types.specs.declared.names.TopVer.{TopVer}
 use Rattle.ignite_types.specs.declared.names.TxId.{TxId}
 use Rattle.ignite_types.specs.declared.placement.PartMap.{PartMap}
-use Rattle.node_state.specs.declared.node.NodeState.{NodeState}
+use Rattle.node_state.specs.Node.{NodeState}
 use Rattle.node_state.specs.declared.primary.BackupName.{BackupName}
 use Rattle.node_state.specs.declared.primary.BackupShare.{BackupShare}
 use Rattle.node_state.specs.declared.primary.OwnShare.{OwnShare}

@@ -5,7 +5,7 @@ use Rattle.act_frames.specs.Extending.{Extends, is_own}
 use Rattle.ignite_types.specs.declared.journal.Rec.{Rec}
 use Rattle.ignite_types.specs.declared.message.Out.{Out}
 use Rattle.ignite_types.specs.declared.names.NodeId.{NodeId}
-use Rattle.node_state.specs.declared.node.NodeState.{NodeState}
+use Rattle.node_state.specs.Node.{NodeState}
 use Rattle.act_frames.specs.Kits.{Kit}
 use Rattle.act_rows.specs.Locks.{enqueued, grants, is_owner, leaves, owner_at, passed_on, placed, released}
 use Rattle.act_rows.specs.Steps.{installed_top, noting, sent_all}

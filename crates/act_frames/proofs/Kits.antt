@@ -4,7 +4,7 @@ use Rattle.act_frames.specs.Kits.{Kit}
 use Rattle.act_rows.specs.Steps.{sent}
 use Rattle.ignite_types.specs.declared.message.Message.{Message}
 use Rattle.ignite_types.specs.declared.names.NodeId.{NodeId}
-use Rattle.node_state.specs.declared.node.NodeState.{NodeState}
+use Rattle.node_state.specs.Node.{NodeState}
 
 module _ (R : NodeState → NodeState → Type 0) (kit : Kit R) where
   pub sent_kept : (s : NodeState) (to : NodeId) (m : Message) → R s (sent s to m)

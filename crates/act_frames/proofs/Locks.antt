@@ -10,7 +10,7 @@ use Rattle.ignite_types.specs.declared.names.NodeId.{NodeId}
 use Rattle.ignite_types.specs.declared.names.TopVer.{TopVer}
 use Rattle.ignite_types.specs.declared.names.TxId.{TxId}
 use Rattle.ignite_types.specs.declared.text.Key.{Key}
-use Rattle.node_state.specs.declared.node.NodeState.{NodeState}
+use Rattle.node_state.specs.Node.{NodeState}
 use Rattle.ignite_types.specs.declared.message.Message.TheVariants as msg
 use Rattle.ignite_types.specs.declared.journal.Rec.TheVariants as note
 use Rattle.act_rows.specs.Locks.{owner_at, enqueued, lock_row, released, released_all, releases, owns_each, reads_for, get_row, edges_row}

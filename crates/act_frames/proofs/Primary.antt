@@ -18,7 +18,7 @@ use Rattle.ignite_types.specs.declared.placement.ShareState.{ShareState}
 use Rattle.ignite_types.specs.declared.placement.ShareState.TheVariants.{Committed, Prepared, Preparing, Undoing}
 use Rattle.ignite_types.specs.declared.scenario.Mode.{Mode}
 use Rattle.ignite_types.specs.declared.text.Key.{Key}
-use Rattle.node_state.specs.declared.node.NodeState.{NodeState}
+use Rattle.node_state.specs.Node.{NodeState}
 use Rattle.node_state.specs.declared.primary.NearWait.{NearWait}
 use Rattle.node_state.specs.declared.primary.OwnShare.{OwnShare}
 use Rattle.ordered_set.specs.Members.{with_member, without_member}

@@ -13,7 +13,7 @@ use Rattle.ignite_types.specs.declared.names.NodeId.{NodeId}
 use Rattle.ignite_types.specs.declared.names.TxId.{TxId}
 use Rattle.ignite_types.specs.declared.placement.Share.{Share}
 use Rattle.ignite_types.specs.declared.scenario.Member.{Member}
-use Rattle.node_state.specs.declared.node.NodeState.{NodeState}
+use Rattle.node_state.specs.Node.{NodeState}
 use Rattle.node_state.specs.declared.topology.Report.{Report}
 use Rattle.node_state.specs.declared.topology.Round.{Round}
 use Rattle.ordered_set.specs.Members.{without_member}

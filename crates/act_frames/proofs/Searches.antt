@@ -17,7 +17,7 @@ use Rattle.ignite_types.specs.declared.names.TxId.{TxId}
 use Rattle.node_state.specs.declared.near.Search.{Search}
 use Rattle.node_state.specs.declared.near.TxEntry.{TxEntry}
 use Rattle.node_state.specs.declared.near.TxState.{TxState}
-use Rattle.node_state.specs.declared.node.NodeState.{NodeState}
+use Rattle.node_state.specs.Node.{NodeState}
 use Rattle.ordered_set.specs.Members.{has}
 use Rattle.ignite_types.specs.declared.answer.Fault.TheVariants as fault
 use Rattle.ignite_types.specs.declared.message.Message.TheVariants as msg

@@ -8,7 +8,7 @@ use Rattle.ignite_types.specs.declared.names.NodeId.{NodeId}
 use Rattle.ignite_types.specs.declared.names.TxId.{TxId}
 use Rattle.ignite_types.specs.declared.text.Key.{Key}
 use Rattle.node_state.specs.declared.near.TxEntry.{TxEntry}
-use Rattle.node_state.specs.declared.node.NodeState.{NodeState}
+use Rattle.node_state.specs.Node.{NodeState}
 use Rattle.node_state.specs.declared.primary.BackupShare.{BackupShare}
 use Rattle.node_state.specs.declared.primary.OwnShare.{OwnShare}
 use Rattle.node_state.specs.declared.session.Desk.{Desk}

@@ -10,7 +10,7 @@ use Rattle.ignite_types.specs.declared.list.List.{List}
 use Rattle.ignite_types.specs.declared.message.Message.{Message}
 use Rattle.ignite_types.specs.declared.message.Out.{Out}
 use Rattle.ignite_types.specs.declared.names.NodeId.{NodeId}
-use Rattle.node_state.specs.declared.node.NodeState.{NodeState}
+use Rattle.node_state.specs.Node.{NodeState}
 use Rattle.ignite_types.specs.declared.journal.Rec.TheVariants as note
 
 -- the act counts, the node keeps its number and its clock, and what it sends goes behind what was in the outbox

@@ -5,7 +5,7 @@ use Rattle.std.specs.Prelude.{Bool, false, true, ◌++◌, ◌≡◌}
 use Rattle.ignite_types.specs.declared.journal.Rec.{Rec}
 use Rattle.ignite_types.specs.declared.list.List.{List}
 use Rattle.ignite_types.specs.declared.message.Out.{Out}
-use Rattle.node_state.specs.declared.node.NodeState.{NodeState}
+use Rattle.node_state.specs.Node.{NodeState}
 use Rattle.ignite_types.specs.declared.journal.Rec.TheVariants as note
 
 -- a record that a row may note; the others are noted by an event itself

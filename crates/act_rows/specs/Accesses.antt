@@ -29,7 +29,7 @@ use Rattle.node_state.specs.declared.near.Getting.{Getting}
 use Rattle.node_state.specs.declared.near.Read.{Read}
 use Rattle.node_state.specs.declared.near.TxEntry.{TxEntry}
 use Rattle.node_state.specs.declared.near.TxState.{TxState}
-use Rattle.node_state.specs.declared.node.NodeState.{NodeState}
+use Rattle.node_state.specs.Node.{NodeState}
 use Rattle.node_state.specs.declared.session.Desk.{Desk}
 use Rattle.ordered_set.specs.Members.{has, with_member, without_member}
 use Rattle.ordered_table.specs.Entries.{at, put}

@@ -11,7 +11,7 @@ use Rattle.ignite_types.specs.declared.names.TxId.{TxId}
 use Rattle.ignite_types.specs.declared.placement.Share.{Share}
 use Rattle.ignite_types.specs.declared.placement.ShareState.{ShareState}
 use Rattle.ignite_types.specs.declared.placement.ShareState.TheVariants.{Committed, Prepared}
-use Rattle.node_state.specs.declared.node.NodeState.{NodeState}
+use Rattle.node_state.specs.Node.{NodeState}
 use Rattle.node_state.specs.declared.primary.BackupShare.{BackupShare}
 use Rattle.ordered_table.specs.Entries.{without}
 use Rattle.ignite_types.specs.declared.message.Message.TheVariants as msg

@@ -16,7 +16,7 @@ use Rattle.ignite_types.specs.declared.scenario.Item.{Item}
 use Rattle.ignite_types.specs.declared.scenario.Mode.{Mode}
 use Rattle.node_state.specs.declared.near.TxEntry.{TxEntry}
 use Rattle.node_state.specs.declared.near.TxState.{TxState}
-use Rattle.node_state.specs.declared.node.NodeState.{NodeState}
+use Rattle.node_state.specs.Node.{NodeState}
 use Rattle.node_state.specs.declared.session.Desk.{Desk}
 use Rattle.ignite_types.specs.declared.answer.Answer.TheVariants as answer
 use Rattle.ignite_types.specs.declared.scenario.Command.TheVariants as command

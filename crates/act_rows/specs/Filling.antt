@@ -14,7 +14,7 @@ use Rattle.ignite_types.specs.declared.names.NodeId.{NodeId}
 use Rattle.ignite_types.specs.declared.names.TopVer.{TopVer}
 use Rattle.ignite_types.specs.declared.placement.Row.{Row}
 use Rattle.ignite_types.specs.declared.text.Key.{Key}
-use Rattle.node_state.specs.declared.node.NodeState.{NodeState}
+use Rattle.node_state.specs.Node.{NodeState}
 use Rattle.node_state.specs.declared.topology.Claim.{Claim}
 use Rattle.ordered_set.specs.Members.{has, with_member}
 use Rattle.ignite_types.specs.declared.message.Message.TheVariants as msg

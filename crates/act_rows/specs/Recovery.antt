@@ -22,7 +22,7 @@ use Rattle.ignite_types.specs.declared.names.TxId.{TxId}
 use Rattle.ignite_types.specs.declared.placement.Share.{Share}
 use Rattle.ignite_types.specs.declared.placement.ShareState.{ShareState}
 use Rattle.ignite_types.specs.declared.scenario.Member.{Member}
-use Rattle.node_state.specs.declared.node.NodeState.{NodeState}
+use Rattle.node_state.specs.Node.{NodeState}
 use Rattle.node_state.specs.declared.primary.BackupName.{BackupName}
 use Rattle.node_state.specs.declared.primary.BackupShare.{BackupShare}
 use Rattle.node_state.specs.declared.primary.OwnShare.{OwnShare}

@@ -17,7 +17,7 @@ use Rattle.ignite_types.specs.declared.names.TxId.{TxId}
 use Rattle.node_state.specs.declared.near.Search.{Search}
 use Rattle.node_state.specs.declared.near.TxEntry.{TxEntry}
 use Rattle.node_state.specs.declared.near.TxState.{TxState}
-use Rattle.node_state.specs.declared.node.NodeState.{NodeState}
+use Rattle.node_state.specs.Node.{NodeState}
 use Rattle.node_state.specs.declared.session.Desk.{Desk}
 use Rattle.ordered_set.specs.Members.{has, with_member, without_member}
 use Rattle.ignite_types.specs.declared.answer.Fault.TheVariants as fault

@@ -24,7 +24,7 @@ use Rattle.ignite_types.specs.declared.placement.Share.{Share}
 use Rattle.ignite_types.specs.declared.scenario.Cache.{Cache}
 use Rattle.ignite_types.specs.declared.text.Key.{Key}
 use Rattle.node_state.specs.declared.near.TxEntry.{TxEntry}
-use Rattle.node_state.specs.declared.node.NodeState.{NodeState}
+use Rattle.node_state.specs.Node.{NodeState}
 use Rattle.node_state.specs.declared.primary.BackupName.{BackupName}
 use Rattle.node_state.specs.declared.primary.BackupShare.{BackupShare}
 use Rattle.node_state.specs.declared.primary.OwnShare.{OwnShare}

@@ -17,9 +17,9 @@ use Rattle.journal_statements.specs.LinkRecords.{is_link_held, sent_on, taken_on
 use Rattle.journal_statements.specs.Noted.{Noted, is_lost}
 use Rattle.link_laws.specs.Carrying.{Apart, Carries, InboxCarries, Keeps, LinkCarries, SayTheSame, StillNew, Stood, is_gone, is_new, joiners}
 use Rattle.link_laws.proofs.Places.{first_at, first_passes, same_node_true, set_elim, some_is}
-use Rattle.node_state.specs.declared.node.Life.{Life}
+use Rattle.node_state.specs.declared.life.Life.{Life}
 use Rattle.tx_model.specs.World.{Part, World, if_alive, is_alive, live_place, part_on, place_of}
-use Rattle.node_state.specs.declared.node.Life.TheVariants as life
+use Rattle.node_state.specs.declared.life.Life.TheVariants as life
 
 -- Links and inboxes.
 

@@ -24,7 +24,7 @@ use Rattle.ordered_table.proofs.Laws as laws
 use Rattle.ordered_table.specs.Entries.{at, put}
 use Rattle.tx_model.specs.Opening.{declared_nodes, ids_of, opening, opening_map_of, opening_part}
 use Rattle.tx_model.specs.World.{Part}
-use Rattle.node_state.specs.declared.node.Life.TheVariants as life
+use Rattle.node_state.specs.declared.life.Life.TheVariants as life
 
 -- Numbers of nodes, ascending.
 

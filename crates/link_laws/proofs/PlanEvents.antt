@@ -34,12 +34,12 @@ use Rattle.link_laws.proofs.LinkTables.{on_link_elim, or_true, shut_empty, shut_
 use Rattle.link_laws.proofs.NodeEvents.{see_calm}
 use Rattle.link_laws.proofs.OneRecord.{more_held, no_more_lost, no_more_sent, no_more_taken}
 use Rattle.link_laws.proofs.Places.{after_map, same_node_itself, same_node_true, same_node_turned, set_elim, some_is}
-use Rattle.node_state.specs.declared.node.NodeState.{NodeState}
+use Rattle.node_state.specs.Node.{NodeState}
 use Rattle.tx_model.specs.World.{Outcome, Part, World, best_without, does_step, holds_link, inbox_on, inboxes_emptied, is_alive, joins, lost, loses, part_after_loss, part_on, parts_after_loss, place_of, planned, shut_at, with_directory}
 use Rattle.ignite_types.specs.declared.journal.Rec.TheVariants as note
 use Rattle.ignite_types.specs.declared.journal.TopoEvent.TheVariants as topo
 use Rattle.ignite_types.specs.declared.scenario.Step.TheVariants as step
-use Rattle.node_state.specs.declared.node.Life.TheVariants as life
+use Rattle.node_state.specs.declared.life.Life.TheVariants as life
 
 abbrev pub planning : ℕ → Option NoLoss → Noted
 planning place refused = record { node = None; rec = note.Planned place refused }

@@ -14,11 +14,11 @@ use Rattle.ignite_types.specs.declared.scenario.PlanStep.{PlanStep}
 use Rattle.ignite_types.specs.declared.scenario.Scenario.{Scenario}
 use Rattle.journal_statements.specs.LinkRecords.{is_link_held, linked_at, sent_on, taken_on}
 use Rattle.journal_statements.specs.Noted.{Noted, each_from, is_lost}
-use Rattle.node_state.specs.declared.node.Life.{Life}
+use Rattle.node_state.specs.declared.life.Life.{Life}
 use Rattle.tx_model.specs.Opening.{homes_from}
 use Rattle.tx_model.specs.World.{Part, World}
 use Rattle.ignite_types.specs.declared.journal.Rec.TheVariants as note
-use Rattle.node_state.specs.declared.node.Life.TheVariants as life
+use Rattle.node_state.specs.declared.life.Life.TheVariants as life
 
 -- a record that says nothing of links
 abbrev pub is_calm : Rec → Bool

@@ -18,7 +18,7 @@ use Rattle.ignite_types.specs.declared.names.NodeId.{NodeId}
 use Rattle.ignite_types.specs.declared.names.TxId.{TxId}
 use Rattle.lock_laws.specs.Tracking.{ActTracks, GrantsFit, Tells, Tracks}
 use Rattle.lock_laws.proofs.Tracking.{lockless_tells, tracking}
-use Rattle.node_state.specs.declared.node.NodeState.{NodeState}
+use Rattle.node_state.specs.Node.{NodeState}
 use Rattle.ignite_types.specs.declared.journal.Rec.TheVariants as note
 
 -- the act of a row that goes on telling

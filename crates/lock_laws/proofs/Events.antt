@@ -19,7 +19,7 @@ use Rattle.lock_laws.specs.Tracking.{ActTracks, AllTell, AreApart, GrantsFit, Te
 use Rattle.lock_laws.proofs.Acts.{answer_tracks, call_tracks, expire_tracks, message_tracks, minor_tracks, see_tracks, send_tracks}
 use Rattle.lock_laws.proofs.Journals.{nobodys_pass, own_pass, split_pass}
 use Rattle.lock_laws.proofs.Parts.{are_apart_set, first_passes, nobody_tells, same_node_itself, same_node_true, set_tells}
-use Rattle.node_state.specs.declared.node.NodeState.{NodeState}
+use Rattle.node_state.specs.Node.{NodeState}
 use Rattle.tx_model.specs.World as world
 use Rattle.tx_model.specs.World.{Part, World, acted, home_of, if_alive, inbox_on, is_alive, live_home, live_place, part_at, part_on, place_of, planned, with_directory, with_inbox}
 use Rattle.ignite_types.specs.declared.journal.TopoEvent.TheVariants as topo

@@ -20,13 +20,13 @@ use Rattle.lock_laws.proofs.Acts.{join_tracks}
 use Rattle.lock_laws.proofs.Events.{goes_on, nobody_goes, place_me, still, tell_at}
 use Rattle.lock_laws.proofs.Journals.{own_pass}
 use Rattle.lock_laws.proofs.Parts.{are_apart_map, are_apart_set, lockless_all, map_tells, same_node_itself, set_tells}
-use Rattle.node_state.specs.declared.node.NodeState.{NodeState}
+use Rattle.node_state.specs.Node.{NodeState}
 use Rattle.tx_model.specs.World as world
 use Rattle.tx_model.specs.World.{Part, World, inbox_on, is_alive, part_on, place_of, planned}
 use Rattle.ignite_types.specs.declared.journal.Rec.TheVariants as note
 use Rattle.ignite_types.specs.declared.journal.TopoEvent.TheVariants as topo
 use Rattle.ignite_types.specs.declared.scenario.Step.TheVariants as step
-use Rattle.node_state.specs.declared.node.Life.TheVariants as life
+use Rattle.node_state.specs.declared.life.Life.TheVariants as life
 
 -- a part whose number and queues stay
 set_same : (noted : List Noted) (ps : List Part) (k : ℕ) (p q : Part) → slice_get ps k ≡ Some p → q.node.me ≡ p.node.me → q.node.queues ≡ p.node.queues → AllTell noted ps → AllTell noted (slice_set ps k q)

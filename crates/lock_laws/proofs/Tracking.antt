@@ -21,7 +21,7 @@ use Rattle.ignite_types.specs.declared.names.TxId.{TxId}
 use Rattle.ignite_types.specs.declared.text.Key.{Key}
 use Rattle.journal_statements.specs.Waits.{holds_after}
 use Rattle.lock_laws.specs.Tracking.{GrantFits, GrantsFit, Tells, Tracks}
-use Rattle.node_state.specs.declared.node.NodeState.{NodeState}
+use Rattle.node_state.specs.Node.{NodeState}
 use Rattle.ordered_table.proofs.Ascending as ascending
 use Rattle.ordered_table.proofs.Laws as laws
 use Rattle.ordered_table.specs.Places.{IsAscending}

@@ -11,7 +11,7 @@ use Rattle.ignite_types.specs.declared.names.TxId.{TxId}
 use Rattle.ignite_types.specs.declared.text.Key.{Key}
 use Rattle.journal_statements.specs.Noted.{Noted, recs_of}
 use Rattle.journal_statements.specs.Waits.{holds_after}
-use Rattle.node_state.specs.declared.node.NodeState.{NodeState}
+use Rattle.node_state.specs.Node.{NodeState}
 use Rattle.ordered_table.specs.Places.{IsAscending}
 use Rattle.tx_model.specs.World.{Part}
 use Rattle.ignite_types.specs.declared.journal.Rec.TheVariants as note

@@ -6,8 +6,8 @@ ghost use Rattle.tx_model.specs.Opening.{desks_on, empty_copies, map_if, opening
 
 use discovery_order::{first_top, running_from};
 use ignite_types::{List, Mem, Member, NodeId, PartMap, Row, Scenario, Session};
-use node_state::{Desk, NodeState, Store};
-use node_steps::{Node, new_desk};
+use node_state::{Desk, Store};
+use node_steps::{Node, NodeParts, new_desk};
 use ordered_set::Set;
 use ordered_table::Table;
 use part_map::opening_map;
@@ -90,7 +90,7 @@ pub fn new_node(
     ensures { IfOk result (λ node. node ≡ opening_node scenario.now map.now id initial) }
 {
     let running = running_from(alloc, scenario.caches.as_slice())?;
-    let state = NodeState {
+    let state = NodeParts {
         me: id,
         acts: 0,
         now: 0,

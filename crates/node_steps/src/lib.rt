@@ -10,7 +10,7 @@ mod queues;
 mod tables;
 
 pub use copies::{apply, drop_marks, found_in, next_batch, supply};
-pub use node::Node;
+pub use node::{Node, NodeParts};
 pub use nodes::{
     add_members, add_nodes, add_transactions, has_node, holders_for, is_member, oldest_member,
 };

@@ -6,7 +6,7 @@ use Rattle.std.specs.List.{list_all}
 use Rattle.act_rows.specs.Filling.{all_claimed, has_claim, movers_of}
 use Rattle.ignite_types.specs.declared.names.NodeId.{NodeId}
 use Rattle.ignite_types.specs.declared.placement.Row.{Row}
-use Rattle.node_state.specs.declared.node.NodeState.{NodeState}
+use Rattle.node_state.specs.Node.{NodeState}
 use Rattle.partition_exchange.specs.Movers.{all_claim, has_mover, has_some}
 
 has_some_append : (xs ys : List NodeId) → has_some (xs ++ ys) ≡ (has_some xs || has_some ys)

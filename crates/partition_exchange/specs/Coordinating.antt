@@ -4,7 +4,7 @@ use Rattle.act_rows.specs.Exchange.{installs, others_seen, without_singles}
 use Rattle.act_rows.specs.Steps.{outs_to, sent_all}
 use Rattle.ignite_types.specs.declared.message.Single.{Single}
 use Rattle.ignite_types.specs.declared.placement.PartMap.{PartMap}
-use Rattle.node_state.specs.declared.node.NodeState.{NodeState}
+use Rattle.node_state.specs.Node.{NodeState}
 use Rattle.ignite_types.specs.declared.message.Message.TheVariants as msg
 
 abbrev pub with_single : NodeState → Single → NodeState

@@ -5,7 +5,7 @@ use Rattle.act_rows.specs.Filling.{has_claim}
 use Rattle.ignite_types.specs.declared.list.List.{List}
 use Rattle.ignite_types.specs.declared.names.NodeId.{NodeId}
 use Rattle.ignite_types.specs.declared.placement.Row.{Row}
-use Rattle.node_state.specs.declared.node.NodeState.{NodeState}
+use Rattle.node_state.specs.Node.{NodeState}
 
 abbrev pub has_some : List NodeId → Bool
 has_some [] = false

@@ -20,7 +20,7 @@ use Rattle.ignite_types.specs.declared.names.TxId.{TxId}
 use Rattle.ignite_types.specs.declared.scenario.Member.{Member}
 use Rattle.ignite_types.specs.declared.scenario.PlanStep.{PlanStep}
 use Rattle.ignite_types.specs.declared.scenario.Step.{Step}
-use Rattle.node_state.specs.declared.node.NodeState.{NodeState}
+use Rattle.node_state.specs.Node.{NodeState}
 use Rattle.run_laws.specs.Staying.{InTime, Stays}
 use Rattle.run_laws.proofs.Parts.{in_time_at, numbers, same_length, same_numbers, set_in_time}
 use Rattle.tx_model.specs.World as world
@@ -29,7 +29,7 @@ use Rattle.ignite_types.specs.declared.journal.Event.TheVariants as event
 use Rattle.ignite_types.specs.declared.journal.Rec.TheVariants as note
 use Rattle.ignite_types.specs.declared.journal.TopoEvent.TheVariants as topo
 use Rattle.ignite_types.specs.declared.scenario.Step.TheVariants as step
-use Rattle.node_state.specs.declared.node.Life.TheVariants as life
+use Rattle.node_state.specs.declared.life.Life.TheVariants as life
 
 -- Both at once: what stays, and that the clocks agree still.
 pub record Keeps (before after : World) : Type 0 where

@@ -20,11 +20,11 @@ use Rattle.ignite_types.specs.declared.scenario.PlanStep.{PlanStep}
 use Rattle.ignite_types.specs.declared.scenario.Scenario.{Scenario}
 use Rattle.ignite_types.specs.declared.scenario.Session.{Session}
 use Rattle.ignite_types.specs.declared.scenario.Step.{Step}
-use Rattle.node_state.specs.declared.node.NodeState.{NodeState}
+use Rattle.node_state.specs.Node.{NodeState}
 use Rattle.node_state.specs.declared.session.Desk.{Desk}
 use Rattle.ordered_table.specs.Entries.{put}
 use Rattle.tx_model.specs.World.{Part, World, ids}
-use Rattle.node_state.specs.declared.node.Life.TheVariants as life
+use Rattle.node_state.specs.declared.life.Life.TheVariants as life
 use Rattle.ignite_types.specs.declared.scenario.Step.TheVariants as step
 
 abbrev pub opening_map_of : Scenario → PartMap

@@ -16,8 +16,8 @@ use Rattle.ignite_types.specs.declared.names.TxId.{TxId}
 use Rattle.ignite_types.specs.declared.text.Key.{Key}
 use Rattle.node_state.specs.declared.near.TxEntry.{TxEntry}
 use Rattle.node_state.specs.declared.near.TxState.{TxState}
-use Rattle.node_state.specs.declared.node.Life.{Life}
-use Rattle.node_state.specs.declared.node.NodeState.{NodeState}
+use Rattle.node_state.specs.declared.life.Life.{Life}
+use Rattle.node_state.specs.Node.{NodeState}
 use Rattle.node_state.specs.declared.session.Desk.{Desk}
 use Rattle.tx_model.specs.Opening.{opening}
 use Rattle.tx_model.specs.Runs.{after}
@@ -25,7 +25,7 @@ use Rattle.tx_model.specs.World.{Part, World, alive_part, home_of, ids, inbox_on
 use Rattle.tx_model.specs.declared.outlook.Outlook.{Outlook}
 use Rattle.tx_model.specs.declared.outlook.Standing.{Standing}
 use Rattle.node_state.specs.declared.near.TxState.TheVariants as state
-use Rattle.node_state.specs.declared.node.Life.TheVariants as life
+use Rattle.node_state.specs.declared.life.Life.TheVariants as life
 use Rattle.tx_model.specs.declared.outlook.Standing.TheVariants as standing
 
 abbrev pub or_wait : Option Wait → Option Wait → Option Wait

@@ -26,12 +26,12 @@ use Rattle.ignite_types.specs.declared.placement.PartMap.{PartMap}
 use Rattle.ignite_types.specs.declared.scenario.Member.{Member}
 use Rattle.ignite_types.specs.declared.scenario.PlanStep.{PlanStep}
 use Rattle.ignite_types.specs.declared.scenario.Step.{Step}
-use Rattle.node_state.specs.declared.node.Life.{Life}
-use Rattle.node_state.specs.declared.node.NodeState.{NodeState}
+use Rattle.node_state.specs.declared.life.Life.{Life}
+use Rattle.node_state.specs.Node.{NodeState}
 use Rattle.node_state.specs.declared.session.Desk.{Desk}
 use Rattle.ordered_table.specs.Entries.{at}
 use Rattle.ignite_types.specs.declared.journal.Event.TheVariants as event
-use Rattle.node_state.specs.declared.node.Life.TheVariants as life
+use Rattle.node_state.specs.declared.life.Life.TheVariants as life
 use Rattle.ignite_types.specs.declared.journal.Rec.TheVariants as note
 use Rattle.ignite_types.specs.declared.scenario.Step.TheVariants as step
 use Rattle.ignite_types.specs.declared.journal.TopoEvent.TheVariants as topo

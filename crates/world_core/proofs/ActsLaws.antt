@@ -6,10 +6,10 @@ use Rattle.ignite_types.specs.declared.journal.Event.{Event}
 use Rattle.ignite_types.specs.declared.journal.Event.TheVariants as event
 use Rattle.ignite_types.specs.declared.journal.Rec.{Rec}
 use Rattle.ignite_types.specs.declared.journal.Rec.TheVariants as note
-use Rattle.node_state.specs.declared.node.Life.TheVariants as life
+use Rattle.node_state.specs.declared.life.Life.TheVariants as life
 use Rattle.ignite_types.specs.declared.names.NodeId.{NodeId}
 use Rattle.ignite_types.specs.declared.names.TxId.{TxId}
-use Rattle.node_state.specs.declared.node.NodeState.{NodeState}
+use Rattle.node_state.specs.Node.{NodeState}
 use Rattle.tx_model.specs.World.{Outcome, Part, World, acted, calls_at, expires_at, idle, inbox_on, joins, part_on, planned, possible_acts, possible_of, sees, sees_at, takes_at, takes_from, with_inbox}
 use Rattle.world_core.specs.Run.{Run, next_for}
 use Rattle.tx_model.specs.Opening.{opening_inboxes}

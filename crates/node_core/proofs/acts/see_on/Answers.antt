@@ -2,7 +2,7 @@ use Rattle.std.proofs.Common.{ap, subst, ◌≡◌, ◌∙◌}
 use Rattle.std.specs.Prelude.{OnOk}
 use Rattle.act_rows.specs.Acts.{see_row}
 use Rattle.act_rows.specs.Closing.{closed}
-use Rattle.node_state.specs.declared.node.NodeState.{NodeState}
+use Rattle.node_state.specs.Node.{NodeState}
 use Rattle.node_core.proofs.acts.see_on.Goals as goal
 
 pub returns : goal.returns

@@ -1,6 +1,6 @@
 use Rattle.std.proofs.Common.{ap, ◌∙◌}
 use Rattle.act_rows.specs.Acts.{over}
-use Rattle.node_state.specs.declared.node.NodeState.{NodeState}
+use Rattle.node_state.specs.Node.{NodeState}
 use Rattle.node_core.proofs.ActLemmas.{delivered}
 use Rattle.node_core.proofs.acts.take_message.Goals as goal
 

@@ -1,7 +1,7 @@
 use Rattle.std.proofs.Common.{subst, ◌≡◌}
 use Rattle.std.specs.Prelude.{OnOk}
 use Rattle.act_rows.specs.Exchange.{computes_if_all}
-use Rattle.node_state.specs.declared.node.NodeState.{NodeState}
+use Rattle.node_state.specs.Node.{NodeState}
 use Rattle.partition_exchange.proofs.coordinating.on_single.Goals as goal
 
 pub returns : goal.returns

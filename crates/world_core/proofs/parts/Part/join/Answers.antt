@@ -1,7 +1,7 @@
 use Rattle.std.proofs.Common.{◌≡◌, ap, subst}
 use Rattle.act_rows.specs.Acts.{join_act}
-use Rattle.node_state.specs.declared.node.NodeState.{NodeState}
-use Rattle.node_state.specs.declared.node.Life.TheVariants as life
+use Rattle.node_state.specs.Node.{NodeState}
+use Rattle.node_state.specs.declared.life.Life.TheVariants as life
 use Rattle.tx_model.specs.World.{Part}
 use Rattle.world_core.proofs.parts.Part.join.Goals as goal
 

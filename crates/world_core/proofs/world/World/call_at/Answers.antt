@@ -1,6 +1,6 @@
 use Rattle.std.proofs.Common.{◌≡◌, ◌<◌, ap, arith, length, rules, slice_set, subst, ◌∙◌}
 use Rattle.act_rows.specs.Acts.{call_act}
-use Rattle.node_state.specs.declared.node.NodeState.{NodeState}
+use Rattle.node_state.specs.Node.{NodeState}
 use Rattle.tx_model.specs.World.{Outcome, Part, calls_at, part_on}
 use Rattle.world_core.specs.Run.{Run}
 use Rattle.world_core.specs.contracts.world.World.{the_view}

@@ -4,7 +4,7 @@ use Rattle.ignite_types.specs.declared.journal.Rec.{Rec}
 use Rattle.ignite_types.specs.declared.journal.TopoEvent.{TopoEvent}
 use Rattle.ignite_types.specs.declared.journal.TopoEvent.TheVariants as topo
 use Rattle.act_rows.specs.Acts.{Acted, join_act}
-use Rattle.node_state.specs.declared.node.Life.TheVariants as life
+use Rattle.node_state.specs.declared.life.Life.TheVariants as life
 use Rattle.tx_model.specs.World.{Part, joins, part_on, planned}
 use Rattle.world_core.specs.Run.{Run}
 use Rattle.world_core.specs.contracts.world.World.{the_view}
