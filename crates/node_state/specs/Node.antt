@@ -1,5 +1,5 @@
 -- The whole state of a node. The protocol's rows are functions on it, whatever tables the code of a node keeps it in.
-use Rattle.std.specs.Prelude.{Bool, Option, ℕ, ◌×◌}
+use Rattle.std.specs.Prelude.{Bool, Option, ℕ}
 use Rattle.base_words.specs.Copies.{Copy}
 use Rattle.base_words.specs.NearEntries.{NearCache, Readers}
 use Rattle.base_words.specs.Queues.{Queues}
