@@ -1,13 +1,13 @@
 -- The exchange of a topology version: what a node sees, its Single, the map, and the opening of the version.
 use Rattle.std.specs.List.{list_all}
 use Rattle.std.specs.Prelude.{Bool, None, Option, Some, [], false, filter, fold, if◌then◌else◌, is_some, map, not, true, ℕ, ◌&&◌, ◌++◌, ◌∷◌}
-use Rattle.act_rows.specs.Starts.{starts_all}
-use Rattle.act_rows.specs.Steps.{backup_cmp, installed_top, is_installed, is_oldest, noting, outs_to, rows_of, sent, sent_all}
-use Rattle.base_words.specs.Copies.{Copy}
-use Rattle.base_words.specs.Directory.{members_after, node_set, running_after, version_after}
-use Rattle.base_words.specs.NextMap.{has_node, next_map, single_of}
-use Rattle.base_words.specs.Orders.{is_lower_top, raised}
-use Rattle.base_words.specs.Tables.{keys_where, without_each}
+use Rattle.act_rows.specs.Starts.{after_start_all}
+use Rattle.act_rows.specs.Steps.{backup_cmp, installed_top, is_installed, is_oldest, outs_to, rows_of, with_note, with_out, with_outs}
+use Rattle.part_model.specs.Copies.{Copy}
+use Rattle.part_model.specs.Directory.{members_after, node_set, running_after, version_after}
+use Rattle.part_model.specs.NextMap.{has_node, next_map, single_of}
+use Rattle.part_model.specs.Orders.{is_lower_top, next_count}
+use Rattle.part_model.specs.Tables.{keys_where, without_each}
 use Rattle.ignite_types.specs.Good.{members}
 use Rattle.ignite_types.specs.Names.{node_cmp, same_node, same_top, tx_cmp}
 use Rattle.ignite_types.specs.Placement.{capped, first_owner}
@@ -40,9 +40,9 @@ left_after left (topo.Left node) = with_member node_cmp left node
 left_after left _ = left
 
 -- the last version seen and its members are at once those of the event; an exchange of an older version is dropped
-abbrev pub learns : NodeState → TopoEvent → NodeState
-learns s event = record s {
-  read = raised s.read;
+abbrev pub after_learn : NodeState → TopoEvent → NodeState
+after_learn s event = record s {
+  read = next_count s.read;
   seen = version_after s.seen event;
   members = members_after s.members event;
   running = running_after s.running event;
@@ -51,8 +51,8 @@ learns s event = record s {
 }
 
 -- what a joiner knows of the events before its own Join, and the clock
-abbrev pub learned : NodeState → List TopoEvent → ℕ → NodeState
-learned s events now = record (fold learns s events) { now = now }
+abbrev pub after_learn_all : NodeState → List TopoEvent → ℕ → NodeState
+after_learn_all s events now = record (fold after_learn s events) { now = now }
 
 -- Installing.
 
@@ -67,8 +67,8 @@ is_kept_commit Committed = true
 is_kept_commit _ = false
 
 -- a new map clears the copies that are not owned in it, near caches, readers, remembered commits, and what was filled
-abbrev pub installs : NodeState → PartMap → NodeState
-installs s m = noting (record s {
+abbrev pub after_install : NodeState → PartMap → NodeState
+after_install s m = with_note (record s {
   installed = Some m;
   stores = kept_copies s.me s.stores m.rows;
   near = [];
@@ -93,12 +93,12 @@ demand_outs me top part [] = []
 demand_outs me top part (row ∷ rows) = demands_of me top part row (first_owner row) ++ demand_outs me top (capped part 1) rows
 
 -- the copies of movers begin to be filled
-abbrev pub demands : NodeState → NodeState
-demands s = sent_all s (demand_outs s.me (installed_top s) 0 (rows_of s))
+abbrev pub after_send_demands : NodeState → NodeState
+after_send_demands s = with_outs s (demand_outs s.me (installed_top s) 0 (rows_of s))
 
 -- the version is open here: what waits for it starts, and a mover asks for its partitions
-abbrev pub opens_row : NodeState → TopVer → NodeState
-opens_row s top = demands (starts_all (noting (record s { opened = Some top }) (note.Opened top)))
+abbrev pub after_opens : NodeState → TopVer → NodeState
+after_opens s top = after_send_demands (after_start_all (with_note (record s { opened = Some top }) (note.Opened top)))
 
 -- The coordinator.
 
@@ -108,17 +108,17 @@ others_seen s = without_member node_cmp (node_set [] s.members) s.me
 abbrev pub all_installed : List Member → List NodeId → Bool
 all_installed members nodes = list_all (λ (m : Member). has node_cmp nodes m.node) members
 
-abbrev pub opens_for_all : NodeState → TopVer → NodeState
-opens_for_all s top = opens_row (sent_all (record s { exchange = None }) (outs_to (others_seen s) (msg.Opens top))) top
+abbrev pub after_open_for_all : NodeState → TopVer → NodeState
+after_open_for_all s top = after_opens (with_outs (record s { exchange = None }) (outs_to (others_seen s) (msg.Opens top))) top
 
 -- once all members have installed the map they are told that the version is open
-abbrev pub opens_if_all : NodeState → Option Exchange → NodeState
-opens_if_all s None = s
-opens_if_all s (Some x) = if all_installed s.members x.installed then opens_for_all s x.top else s
+abbrev pub after_open_if_all : NodeState → Option Exchange → NodeState
+after_open_if_all s None = s
+after_open_if_all s (Some x) = if all_installed s.members x.installed then after_open_for_all s x.top else s
 
 -- the exchange in work has these members' word
-abbrev pub counts : NodeState → Exchange → NodeState
-counts s x = opens_if_all (record s { exchange = Some x }) (Some x)
+abbrev pub after_count : NodeState → Exchange → NodeState
+after_count s x = after_open_if_all (record s { exchange = Some x }) (Some x)
 
 abbrev pub singles_under : NodeState → TopVer → List Single
 singles_under s top = filter (λ (x : Single). same_top x.top top) s.singles
@@ -131,8 +131,8 @@ abbrev pub without_singles : NodeState → TopVer → NodeState
 without_singles s top = record s { singles = filter (λ (x : Single). is_lower_top top x.top) s.singles }
 
 -- the coordinator installs the map that it computed, counts itself, and tells the others
-abbrev pub computes : NodeState → PartMap → NodeState
-computes s m = counts (sent_all (installs (without_singles s m.top) m) (outs_to (others_seen s) (msg.Full m)))
+abbrev pub after_compute : NodeState → PartMap → NodeState
+after_compute s m = after_count (with_outs (after_install (without_singles s m.top) m) (outs_to (others_seen s) (msg.Full m)))
     (record { top = m.top; installed = s.me ∷ [] })
 
 abbrev pub next_map_seen : NodeState → PartMap
@@ -142,12 +142,12 @@ next_map_seen s = next_map s.seen s.members s.caches s.running (singles_under s 
 abbrev pub may_compute : NodeState → Bool
 may_compute s = is_oldest s && not (is_installed s s.seen) && all_sent s.members (singles_under s s.seen)
 
-abbrev pub computes_if_all : NodeState → NodeState
-computes_if_all s = if may_compute s then computes s (next_map_seen s) else s
+abbrev pub after_compute_if_all : NodeState → NodeState
+after_compute_if_all s = if may_compute s then after_compute s (next_map_seen s) else s
 
 -- Single: kept under its version
-abbrev pub single_row : NodeState → NodeId → TopVer → Option PartMap → List ℕ → NodeState
-single_row s from top m complete = computes_if_all (record s {
+abbrev pub after_single : NodeState → NodeId → TopVer → Option PartMap → List ℕ → NodeState
+after_single s from top m complete = after_compute_if_all (record s {
   singles = s.singles ++ record { from = from; top = top; map = m; complete = complete } ∷ [];
 })
 
@@ -157,16 +157,16 @@ is_newer_map m None = true
 is_newer_map m (Some there) = is_lower_top there.top m.top
 
 -- Full: the map is installed
-abbrev pub full_row : NodeState → NodeId → PartMap → NodeState
-full_row s from m = if is_newer_map m s.installed then sent (installs s m) from (msg.Installed m.top) else s
+abbrev pub after_full : NodeState → NodeId → PartMap → NodeState
+after_full s from m = if is_newer_map m s.installed then with_out (after_install s m) from (msg.Installed m.top) else s
 
-abbrev pub counts_installed : NodeState → NodeId → TopVer → Option Exchange → NodeState
-counts_installed s from top None = s
-counts_installed s from top (Some x) = if same_top x.top top then counts s (record x { installed = with_member node_cmp x.installed from }) else s
+abbrev pub after_count_installed : NodeState → NodeId → TopVer → Option Exchange → NodeState
+after_count_installed s from top None = s
+after_count_installed s from top (Some x) = if same_top x.top top then after_count s (record x { installed = with_member node_cmp x.installed from }) else s
 
 -- Installed: counted where it speaks of the exchange in work
-abbrev pub installed_row : NodeState → NodeId → TopVer → NodeState
-installed_row s from top = counts_installed s from top s.exchange
+abbrev pub after_installed : NodeState → NodeId → TopVer → NodeState
+after_installed s from top = after_count_installed s from top s.exchange
 
 -- the Singles of a lost node are discarded
 abbrev pub without_single : NodeState → NodeId → NodeState

@@ -3,11 +3,11 @@ use Rattle.std.specs.Option.{option_and_then, option_map}
 use Rattle.std.specs.Ordering.{nat_cmp, ordering_then}
 use Rattle.std.specs.Prelude.{Bool, None, Option, Some, [], false, filter, is_some, map, not, slice_get, unwrap_or, ℕ, ◌&&◌, ◌++◌, ◌||◌, ◌∷◌}
 use Rattle.std.specs.declared.cmp.Ordering.{Ordering}
-use Rattle.base_words.specs.Directory.{oldest_member}
-use Rattle.base_words.specs.Links.{oldest}
-use Rattle.base_words.specs.NearEntries.{NearCache}
-use Rattle.base_words.specs.NextMap.{has_node}
-use Rattle.base_words.specs.Orders.{is_node}
+use Rattle.part_model.specs.Directory.{oldest_member}
+use Rattle.part_model.specs.Links.{oldest_in}
+use Rattle.part_model.specs.NearEntries.{NearCache}
+use Rattle.part_model.specs.NextMap.{has_node}
+use Rattle.part_model.specs.Orders.{is_node}
 use Rattle.ignite_types.specs.Names.{node_cmp, same_node, same_top, tx_cmp}
 use Rattle.ignite_types.specs.Placement.{part_of, primary_of}
 use Rattle.ignite_types.specs.declared.answer.Answer.{Answer}
@@ -28,14 +28,14 @@ use Rattle.node_state.specs.Node.{NodeState}
 use Rattle.node_state.specs.declared.primary.BackupName.{BackupName}
 use Rattle.node_state.specs.declared.primary.BackupShare.{BackupShare}
 use Rattle.node_state.specs.declared.primary.OwnShare.{OwnShare}
-use Rattle.node_state.specs.declared.session.Desk.{Desk}
+use Rattle.node_state.specs.declared.session.SessionState.{SessionState}
 use Rattle.ordered_set.specs.Members.{has}
 use Rattle.ordered_table.specs.Entries.{at, put}
 
 -- Looking up.
 
-abbrev pub desk_of : NodeState → ℕ → Option Desk
-desk_of s session = at nat_cmp s.desks session
+abbrev pub session_state_of : NodeState → ℕ → Option SessionState
+session_state_of s session = at nat_cmp s.session_states session
 
 abbrev pub entry_of : NodeState → TxId → Option TxEntry
 entry_of s tx = at tx_cmp s.txs tx
@@ -71,8 +71,8 @@ abbrev pub rows_of : NodeState → List Row
 rows_of s = unwrap_or (option_map (λ (m : PartMap). m.rows) s.installed) []
 
 -- the partition of a key by the installed map; 0 where none is installed
-abbrev pub partition : NodeState → Key → ℕ
-partition s key = unwrap_or (option_map (λ (m : PartMap). part_of m.parts key) s.installed) 0
+abbrev pub partition_of : NodeState → Key → ℕ
+partition_of s key = unwrap_or (option_map (λ (m : PartMap). part_of m.parts key) s.installed) 0
 
 -- the key's primary by the installed map, where its cache runs there
 abbrev pub primary_at : NodeState → Key → Option NodeId
@@ -91,8 +91,8 @@ is_mover_in node None = false
 is_mover_in node (Some row) = has_node row.movers node
 
 -- whether a node has a copy of the key's partition by the installed map
-abbrev pub holds : NodeState → NodeId → Key → Bool
-holds s node key = is_holder_in node (slice_get (rows_of s) (partition s key))
+abbrev pub is_holder : NodeState → NodeId → Key → Bool
+is_holder s node key = is_holder_in node (slice_get (rows_of s) (partition_of s key))
 
 -- whether this node's copy of a partition is being filled
 abbrev pub is_filling : NodeState → ℕ → Bool
@@ -132,32 +132,32 @@ near_of s key = unwrap_or (at nat_cmp s.near key.cache) []
 -- Changing.
 
 -- puts a message into the outbox
-abbrev pub sent : NodeState → NodeId → Message → NodeState
-sent s to m = record s { outbox = s.outbox ++ record { to = to; msg = m } ∷ [] }
+abbrev pub with_out : NodeState → NodeId → Message → NodeState
+with_out s to m = record s { outbox = s.outbox ++ record { to = to; msg = m } ∷ [] }
 
 -- puts messages into the outbox
-abbrev pub sent_all : NodeState → List Out → NodeState
-sent_all s outs = record s { outbox = s.outbox ++ outs }
+abbrev pub with_outs : NodeState → List Out → NodeState
+with_outs s outs = record s { outbox = s.outbox ++ outs }
 
 -- one message to each of these nodes
 abbrev pub outs_to : List NodeId → Message → List Out
 outs_to nodes m = map (λ (n : NodeId). record { to = n; msg = m }) nodes
 
-abbrev pub sent_to_oldest : NodeState → Message → Option NodeId → NodeState
-sent_to_oldest s m None = s
-sent_to_oldest s m (Some oldest) = sent s oldest m
+abbrev pub with_out_to_oldest : NodeState → Message → Option NodeId → NodeState
+with_out_to_oldest s m None = s
+with_out_to_oldest s m (Some oldest_in) = with_out s oldest_in m
 
 -- notes a record
-abbrev pub noting : NodeState → Rec → NodeState
-noting s rec = record s { noted = s.noted ++ rec ∷ [] }
+abbrev pub with_note : NodeState → Rec → NodeState
+with_note s rec = record s { noted = s.noted ++ rec ∷ [] }
 
-abbrev pub with_desk : NodeState → ℕ → Desk → NodeState
-with_desk s session desk = record s { desks = put nat_cmp s.desks session desk }
+abbrev pub with_session_state : NodeState → ℕ → SessionState → NodeState
+with_session_state s session session_state = record s { session_states = put nat_cmp s.session_states session session_state }
 
--- changes a session's desk, where there is one
-abbrev pub on_desk : NodeState → ℕ → (Desk → Desk) → Option Desk → NodeState
-on_desk s session f None = s
-on_desk s session f (Some desk) = with_desk s session (f desk)
+-- changes a session's state, where there is one
+abbrev pub on_session_state : NodeState → ℕ → (SessionState → SessionState) → Option SessionState → NodeState
+on_session_state s session f None = s
+on_session_state s session f (Some session_state) = with_session_state s session (f session_state)
 
 abbrev pub with_entry : NodeState → TxId → TxEntry → NodeState
 with_entry s tx entry = record s { txs = put tx_cmp s.txs tx entry }
@@ -182,5 +182,5 @@ abbrev pub with_near : NodeState → Key → NearCache → NodeState
 with_near s key near = record s { near = put nat_cmp s.near key.cache near }
 
 -- makes the answer of a session's pending command ready
-abbrev pub answered : NodeState → ℕ → Answer → NodeState
-answered s session a = on_desk s session (λ (d : Desk). record d { ready = Some a }) (desk_of s session)
+abbrev pub with_answer_ready : NodeState → ℕ → Answer → NodeState
+with_answer_ready s session a = on_session_state s session (λ (d : SessionState). record d { ready = Some a }) (session_state_of s session)

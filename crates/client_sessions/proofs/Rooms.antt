@@ -3,8 +3,8 @@ use Rattle.std.proofs.Common.{◌≡◌, ℕ, ◌+◌, ◌<◌, zero, suc, List,
 use Rattle.std.specs.Option.{option_and_then}
 use Rattle.std.specs.Cmp.{IsTotalOrder, then_total, on_total}
 use Rattle.std.proofs.lemmas.Cmp.{nat_cmp_total, nat_list_cmp_total}
-use Rattle.base_words.specs.Script.{Ranges, ranges_after}
-use Rattle.base_words.specs.declared.script.Range.{Range}
+use Rattle.part_model.specs.Script.{Ranges, ranges_after}
+use Rattle.part_model.specs.declared.script.Range.{Range}
 use Rattle.ignite_types.specs.Names.{key_cmp}
 use Rattle.ignite_types.specs.declared.answer.Answer.{Answer}
 use Rattle.ignite_types.specs.declared.scenario.Item.{Item}
@@ -14,7 +14,7 @@ use Rattle.ordered_table.specs.Places.{IsAscending}
 use Rattle.ordered_table.proofs.Ascending.{ascending_put}
 use Rattle.ordered_table.proofs.Copies as copies
 use Rattle.ordered_table.proofs.Laws.{put_there}
-use Rattle.client_sessions.specs.Sequences.{HasRoom, HasRoomFor, KeepsRoom, Sequences, kept}
+use Rattle.client_sessions.specs.Sequences.{HasRoom, HasRoomFor, KeepsRoom, Sequences, entries_present}
 use Rattle.client_sessions.proofs.Kept.{at_kept, kept_none, kept_some, there_still}
 use Rattle.ignite_types.specs.declared.scenario.Item.TheVariants as item
 
@@ -56,20 +56,20 @@ room_more script n d s within room more = rw (add-one n) (one_more script n d s 
 pub range_copied : (s : Sequences) (i : ℕ) (d : Key × Option Range) → IsAscending key_cmp s → i < length s → put key_cmp (take i s) (get_or s i d).0 (get_or s i d).1 ≡ take (i + 1) s
 range_copied = copies.copied_more key_cmp key_total
 
-pub range_kept : (s : Sequences) (object : Key) (range : Range) → IsAscending key_cmp s → kept (put key_cmp s object (Some range)) ≡ put key_cmp (kept s) object range
+pub range_kept : (s : Sequences) (object : Key) (range : Range) → IsAscending key_cmp s → entries_present (put key_cmp s object (Some range)) ≡ put key_cmp (entries_present s) object range
 range_kept = kept_some key_cmp key_total
 
-pub range_gone : (s : Sequences) (object : Key) → IsAscending key_cmp s → kept (put key_cmp s object None) ≡ without key_cmp (kept s) object
+pub range_gone : (s : Sequences) (object : Key) → IsAscending key_cmp s → entries_present (put key_cmp s object None) ≡ without key_cmp (entries_present s) object
 range_gone = kept_none key_cmp key_total
 
-pub range_at : (s : Sequences) (object : Key) → IsAscending key_cmp s → at key_cmp (kept s) object ≡ option_and_then (λ x. x) (at key_cmp s object)
+pub range_at : (s : Sequences) (object : Key) → IsAscending key_cmp s → at key_cmp (entries_present s) object ≡ option_and_then (λ x. x) (at key_cmp s object)
 range_at = at_kept key_cmp key_total
 
 pub ascending_set : (s : Sequences) (object : Key) (x : Option Range) → IsAscending key_cmp s → IsAscending key_cmp (put key_cmp s object x)
 ascending_set = ascending_put key_cmp key_total
 
 -- nothing is left of a sequence that gets its place
-pub none_more : (s : Sequences) (object : Key) → IsAscending key_cmp s → kept s ≡ [] → kept (put key_cmp s object None) ≡ []
+pub none_more : (s : Sequences) (object : Key) → IsAscending key_cmp s → entries_present s ≡ [] → entries_present (put key_cmp s object None) ≡ []
 none_more s object ascending none = range_gone s object ascending ∙ ap (λ r. without key_cmp r object) none
 
 -- an item that draws from no sequence leaves the numbers alone

@@ -2,8 +2,8 @@
 use Rattle.std.specs.Option.{option_and_then}
 use Rattle.std.specs.Ordering.{nat_cmp}
 use Rattle.std.specs.Prelude.{None, Option, Some, [], if◌then◌else◌, ℕ, ◌∷◌}
-use Rattle.base_words.specs.Script.{advance, command_at, no_progress}
-use Rattle.base_words.specs.declared.script.Progress.{Progress}
+use Rattle.part_model.specs.Script.{advance, command_at, no_progress}
+use Rattle.part_model.specs.declared.script.Progress.{Progress}
 use Rattle.ignite_types.specs.Names.{same_node}
 use Rattle.ignite_types.specs.Placement.{capped}
 use Rattle.ignite_types.specs.declared.answer.Answer.{Answer}
@@ -39,13 +39,13 @@ clients_on node number desk (session ∷ more) = clients_on node (capped number 
 
 -- One session.
 
-abbrev pub next_unless : Option Command → Client → Option Command
-next_unless None client = command_at client.script client.progress
-next_unless (Some pending) client = None
+abbrev pub given_unless_pending : Option Command → Client → Option Command
+given_unless_pending None client = command_at client.script client.progress
+given_unless_pending (Some pending) client = None
 
 -- the command that it gives next: none while one is pending, or at its script's end
-abbrev pub next_of : Client → Option Command
-next_of client = next_unless client.pending client
+abbrev pub command_to_hand : Client → Option Command
+command_to_hand client = given_unless_pending client.pending client
 
 -- the command that it gave is pending
 abbrev pub given : Option Command → Client → Client
@@ -56,9 +56,9 @@ abbrev pub answer_kept : Answer → Client → Client
 answer_kept a client = record client { ready = Some a }
 
 -- with this answer it goes on in its script
-abbrev pub handed_over : Option Answer → Client → Client
-handed_over None client = client
-handed_over (Some a) client = record {
+abbrev pub client_after_answer : Option Answer → Client → Client
+client_after_answer None client = client
+client_after_answer (Some a) client = record {
   script = client.script;
   progress = (advance client.script client.progress a).progress;
   pending = None;
@@ -70,11 +70,11 @@ handed_over (Some a) client = record {
 abbrev pub client_of : Desk → ℕ → Option Client
 client_of desk session = at nat_cmp desk session
 
-abbrev pub command_of : Desk → ℕ → Option Command
-command_of desk session = option_and_then next_of (client_of desk session)
+abbrev pub command_of_client : Desk → ℕ → Option Command
+command_of_client desk session = option_and_then command_to_hand (client_of desk session)
 
-abbrev pub answer_of : Desk → ℕ → Option Answer
-answer_of desk session = option_and_then (λ (client : Client). client.ready) (client_of desk session)
+abbrev pub answer_of_client : Desk → ℕ → Option Answer
+answer_of_client desk session = option_and_then (λ (client : Client). client.ready) (client_of desk session)
 
 -- changes a session, where there is one of this number
 abbrev pub on_client : (Client → Client) → Desk → ℕ → Option Client → Desk
@@ -82,10 +82,10 @@ on_client change desk session None = desk
 on_client change desk session (Some client) = put nat_cmp desk session (change client)
 
 abbrev pub taken : Desk → ℕ → Desk
-taken desk session = on_client (λ client. given (next_of client) client) desk session (client_of desk session)
+taken desk session = on_client (λ client. given (command_to_hand client) client) desk session (client_of desk session)
 
 abbrev pub made_ready : Desk → ℕ → Answer → Desk
 made_ready desk session a = on_client (answer_kept a) desk session (client_of desk session)
 
 abbrev pub handed_out : Desk → ℕ → Desk
-handed_out desk session = on_client (λ client. handed_over client.ready client) desk session (client_of desk session)
+handed_out desk session = on_client (λ client. client_after_answer client.ready client) desk session (client_of desk session)

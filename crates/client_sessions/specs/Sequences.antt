@@ -1,6 +1,6 @@
 -- The sequences that a script names, each with the numbers that are left of it or none.
 use Rattle.std.specs.Prelude.{IsSome, None, Option, Some, [], ◌∷◌}
-use Rattle.base_words.specs.declared.script.Range.{Range}
+use Rattle.part_model.specs.declared.script.Range.{Range}
 use Rattle.ignite_types.specs.Names.{key_cmp}
 use Rattle.ignite_types.specs.declared.list.List.{List}
 use Rattle.ignite_types.specs.declared.scenario.Item.{Item}
@@ -16,9 +16,9 @@ with_kept k None more = more
 with_kept k (Some v) more = (k, v) ∷ more
 
 -- the entries that have something
-abbrev pub kept : {K V : Type 0} → List (K × Option V) → List (K × V)
-kept [] = []
-kept (e ∷ es) = with_kept e.0 e.1 (kept es)
+abbrev pub entries_present : {K V : Type 0} → List (K × Option V) → List (K × V)
+entries_present [] = []
+entries_present (e ∷ es) = with_kept e.0 e.1 (entries_present es)
 
 -- the sequence that an item draws from has its place
 abbrev pub HasRoomFor : Sequences → Item → Type 0

@@ -1,11 +1,11 @@
 //! One session: its script, how far it has come, its command and its answer.
 
 ghost use Rattle.std.specs.Prelude.{◌≡◌, [], IfOk};
-ghost use Rattle.client_sessions.specs.Desks.{answer_kept, given, handed_over, new_client, next_of};
+ghost use Rattle.client_sessions.specs.Desks.{answer_kept, client_after_answer, command_to_hand, given, new_client};
 
 use crate::course::Course;
 use crate::sequences::Sequences;
-use base_words::Phase;
+use part_model::Phase;
 use ignite_types::{Answer, Command, Item, List, Mem};
 use session_scripts::command_of;
 use std::alloc::Global;
@@ -81,7 +81,7 @@ impl Client {
 
     /// The command that it gives next: none while one is pending, or at its script's end.
     pub fn next(&self) -> Option<Command>
-        ensures { result ≡ next_of self.now }
+        ensures { result ≡ command_to_hand self.now }
     {
         if self.pending.is_some() {
             return None;
@@ -92,8 +92,8 @@ impl Client {
 
     /// Gives its next command, which is pending from then on.
     pub fn take(&mut self) -> Option<Command>
-        ensures command { result ≡ next_of self.old }
-        ensures rest { self.new ≡ given (next_of self.old) self.old }
+        ensures command { result ≡ command_to_hand self.old }
+        ensures rest { self.new ≡ given (command_to_hand self.old) self.old }
     {
         let command = self.next();
         if command.is_some() {
@@ -112,7 +112,7 @@ impl Client {
     /// Hands its answer out, and goes on in its script.
     pub fn hand_out(&mut self) -> Option<Answer>
         ensures answer { result ≡ self.old.ready }
-        ensures rest { self.new ≡ handed_over self.old.ready self.old }
+        ensures rest { self.new ≡ client_after_answer self.old.ready self.old }
     {
         let answer = self.ready?;
         self.course.advance(self.script.as_slice(), &answer);

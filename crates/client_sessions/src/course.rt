@@ -1,12 +1,12 @@
 //! How far a session has come in its script.
 
 ghost use Rattle.std.specs.Prelude.{◌≡◌, [], IfOk};
-ghost use Rattle.base_words.specs.Script.{advance, no_progress, passed_over};
+ghost use Rattle.part_model.specs.Script.{advance, advance_past_numbers, no_progress};
 ghost use Rattle.client_sessions.specs.Sequences.{HasRoom, KeepsRoom};
 ghost use Rattle.client_sessions.specs.Courses.{progress_of};
 
 use crate::sequences::Sequences;
-use base_words::Phase;
+use part_model::Phase;
 use ignite_types::{Answer, Item, Mem};
 use session_scripts::{item_end, phase_after};
 use std::alloc::Global;
@@ -45,7 +45,7 @@ impl Course {
 
     /// Passes over the items that need no command.
     fn pass_over(&mut self, items: &[Item])
-        ensures progress { progress_of self.new ≡ (passed_over items.now (progress_of self.old) []).progress }
+        ensures progress { progress_of self.new ≡ (advance_past_numbers items.now (progress_of self.old) []).progress }
         ensures room { KeepsRoom self.old.sequences self.new.sequences }
     {
         for item in items {

@@ -1,7 +1,7 @@
 //! The sessions of a node.
 
 ghost use Rattle.std.specs.Prelude.{◌≡◌, IfOk, MatchOption, []};
-ghost use Rattle.client_sessions.specs.Desks.{answer_of, clients_on, command_of, handed_out, made_ready, taken};
+ghost use Rattle.client_sessions.specs.Desks.{answer_of_client, clients_on, command_of_client, handed_out, made_ready, taken};
 ghost use Rattle.client_sessions.specs.Taking.{TakesClient, TakesNoClient};
 
 use crate::client::Client;
@@ -56,7 +56,7 @@ impl Desk {
     /// The plain command that a session gives next: none while one is pending, at the script's end, and of a session that is
     /// on another node.
     pub fn next(&self, session: u32) -> Option<Command>
-        ensures { result ≡ command_of self.now session }
+        ensures { result ≡ command_of_client self.now session }
     {
         self.clients.get(&session)?.next()
     }
@@ -76,7 +76,7 @@ impl Desk {
     /// Takes the session's next command, which is pending from then on. It takes no memory.
     #[tactic(auto, using(crate::proofs::Desks::client_put_put))]
     pub fn take(&mut self, session: u32) -> Option<Command>
-        ensures command { result ≡ command_of self.old session }
+        ensures command { result ≡ command_of_client self.old session }
         ensures rest { self.new ≡ taken self.old session }
     {
         let mut client = self.take_client(session)?;
@@ -100,7 +100,7 @@ impl Desk {
     /// time in the number of items that need no command now and are passed over.
     #[tactic(auto, using(crate::proofs::Desks::client_put_put))]
     pub fn hand_out(&mut self, session: u32) -> Option<Answer>
-        ensures answer { result ≡ answer_of self.old session }
+        ensures answer { result ≡ answer_of_client self.old session }
         ensures rest { self.new ≡ handed_out self.old session }
     {
         let mut client = self.take_client(session)?;

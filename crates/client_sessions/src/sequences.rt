@@ -1,12 +1,12 @@
 //! The sequences that a script names, with the numbers that are left of each.
 
 ghost use Rattle.std.specs.Prelude.{◌≡◌, [], IfOk, IfSome, IsSome};
-ghost use Rattle.base_words.specs.Script.{left_for, ranges_after, without_first};
-ghost use Rattle.client_sessions.specs.Sequences.{HasRoom, HasRoomFor, KeepsRoom, kept};
+ghost use Rattle.part_model.specs.Script.{numbers_left_for, ranges_after, without_first};
+ghost use Rattle.client_sessions.specs.Sequences.{HasRoom, HasRoomFor, KeepsRoom, entries_present};
 ghost use Rattle.ignite_types.specs.Names.{key_cmp};
 ghost use Rattle.ordered_table.specs.Entries.{at, put, without};
 
-use base_words::Range;
+use part_model::Range;
 use ignite_types::{Answer, Item, Key, Mem};
 use ordered_table::Table;
 use session_scripts::{answer_number, range_of};
@@ -35,7 +35,7 @@ impl Model for Sequences {
 impl Sequences {
     /// Those that a script names, of which nothing is left yet.
     pub fn new(alloc: Global, script: &[Item]) -> Mem<Sequences>
-        ensures none_left { IfOk result (λ sequences. kept sequences ≡ []) }
+        ensures none_left { IfOk result (λ sequences. entries_present sequences ≡ []) }
         ensures room { IfOk result (λ sequences. HasRoom script.now sequences) }
     {
         let mut ranges = Table::new(alloc);
@@ -69,7 +69,7 @@ impl Sequences {
 
     /// The numbers that are left of a sequence.
     fn left_of(&self, object: &Key) -> Option<Range>
-        ensures value { result ≡ at key_cmp (kept self.now) object.now }
+        ensures value { result ≡ at key_cmp (entries_present self.now) object.now }
         ensures place { IfSome result (λ _. IsSome (at key_cmp self.now object.now)) }
     {
         match self.ranges.get(object) {
@@ -80,7 +80,7 @@ impl Sequences {
 
     /// The numbers that are left for an item that needs no command then.
     pub fn left_for(&self, item: &Item) -> Option<(Key, Range)>
-        ensures value { result ≡ left_for item.now (kept self.now) }
+        ensures value { result ≡ numbers_left_for item.now (entries_present self.now) }
         ensures place { IfSome result (λ left. IsSome (at key_cmp self.now left.0)) }
     {
         let Item::Next(object) = item else {
@@ -97,7 +97,7 @@ impl Sequences {
     /// Keeps these numbers of a sequence.
     fn keep(&mut self, object: &Key, range: Range)
         requires { IsSome (at key_cmp self.old object.now) }
-        ensures ranges { kept self.new ≡ put key_cmp (kept self.old) object.now range }
+        ensures ranges { entries_present self.new ≡ put key_cmp (entries_present self.old) object.now range }
         ensures room { KeepsRoom self.old self.new }
     {
         let _before = self.ranges.replace(*object, Some(range));
@@ -106,7 +106,7 @@ impl Sequences {
     /// Keeps no number of a sequence.
     fn use_up(&mut self, object: &Key)
         requires { IsSome (at key_cmp self.old object.now) }
-        ensures ranges { kept self.new ≡ without key_cmp (kept self.old) object.now }
+        ensures ranges { entries_present self.new ≡ without key_cmp (entries_present self.old) object.now }
         ensures room { KeepsRoom self.old self.new }
     {
         let _before = self.ranges.replace(*object, None);
@@ -115,7 +115,7 @@ impl Sequences {
     /// Keeps the numbers behind the first one of ten that were drawn.
     pub fn keep_range(&mut self, item: &Item, answer: &Answer)
         requires { HasRoomFor self.old item.now }
-        ensures ranges { kept self.new ≡ ranges_after item.now (kept self.old) answer.now }
+        ensures ranges { entries_present self.new ≡ ranges_after item.now (entries_present self.old) answer.now }
         ensures room { KeepsRoom self.old self.new }
     {
         if let Item::Next(object) = item {
@@ -128,7 +128,7 @@ impl Sequences {
     /// Takes the first number out.
     pub fn take_first(&mut self, object: &Key, range: &Range)
         requires { IsSome (at key_cmp self.old object.now) }
-        ensures ranges { kept self.new ≡ without_first (kept self.old) (object.now, range.now) }
+        ensures ranges { entries_present self.new ≡ without_first (entries_present self.old) (object.now, range.now) }
         ensures room { KeepsRoom self.old self.new }
     {
         if range.next < range.last {

@@ -7,8 +7,8 @@ use Rattle.clap.specs.Kinds.{Kinds, or_else}
 use Rattle.clap.specs.Faults.{default_fault, defaults_fault}
 use Rattle.clap.specs.declared.parser.matches.ValueSource.TheVariants.{DefaultValue}
 use Rattle.clap.specs.declared.builder.value_parser.Reading.TheVariants.{AsWritten}
-use Rattle.command_words.specs.Line.{asked, asked_by}
-use Rattle.command_words.specs.Options.{Text, Name, seed, steps, make, txs, trace, json, spelled, takes_value, names, Given, stands, value_of}
+use Rattle.command_words.specs.Line.{asked_by, words_asked}
+use Rattle.command_words.specs.Options.{Given, Name, Text, is_given, json, make, names, seed, spelled, steps, takes_value, trace, txs, value_given}
 use Rattle.command_words.specs.Parse.{asked_of, is_set}
 use Rattle.command_words.proofs.Rules.{rule, rule_by, row, rows, shown}
 use Rattle.command_words.proofs.Turns.{Knows}
@@ -132,11 +132,11 @@ takes_is json = refl
 same_takes : (a b : Name) → bytes_eq (spelled a) (spelled b) ≡ true → takes_value a ≡ takes_value b
 same_takes a b h = takes_is a ∙ (ap takes_by ((bytes_eq-Decides (spelled a) (spelled b)).0 h) ∙ sym (takes_is b))
 
-first_value : (n : Name) (given : Given) → first_of (spelled n) (rows given) ≡ option_map (shown (takes_value n)) (value_of n given)
+first_value : (n : Name) (given : Given) → first_of (spelled n) (rows given) ≡ option_map (shown (takes_value n)) (value_given n given)
 first_value n [] = refl
 first_value n (e ∷ given) = go (bytes_eq (spelled e.0) (spelled n)) refl (first_value n given)
   where
-    go : (b : Bool) → bytes_eq (spelled e.0) (spelled n) ≡ b → first_of (spelled n) (rows given) ≡ option_map (shown (takes_value n)) (value_of n given)
+    go : (b : Bool) → bytes_eq (spelled e.0) (spelled n) ≡ b → first_of (spelled n) (rows given) ≡ option_map (shown (takes_value n)) (value_given n given)
         → option_and_then (λ (x : Row). slice_get x.values 0) (cond b (Some (row e)) (find (λ x. bytes_eq x.id (spelled n)) (rows given)))
         ≡ option_map (shown (takes_value n)) (option_map (λ (x : Name × Text). x.1) (cond b (Some e) (find (λ x. bytes_eq (spelled x.0) (spelled n)) given)))
     go true h rec = ap (λ (b : Bool). Some (shown b e.1)) (same_takes e.0 n h)
@@ -161,24 +161,24 @@ finished_is xs =
     ∙ ap (λ ys. with_default (with_default ys (rule trace)) (rule json)) (no_default (codes "txs") xs)))
 
 read_value : (n : Name) (given : Given) → takes_value n ≡ true → bytes_eq (codes "trace") (spelled n) ≡ false → bytes_eq (codes "json") (spelled n) ≡ false
-    → first_of (spelled n) (with_default (with_default (rows given) (rule trace)) (rule json)) ≡ value_of n given
+    → first_of (spelled n) (with_default (with_default (rows given) (rule trace)) (rule json)) ≡ value_given n given
 read_value n given takes t j =
     other_flag (spelled n) (codes "json") (with_default (rows given) (rule trace)) j
     ∙ (other_flag (spelled n) (codes "trace") (rows given) t
-    ∙ (first_value n given ∙ (ap (λ (b : Bool). option_map (shown b) (value_of n given)) takes ∙ value_shown (value_of n given))))
+    ∙ (first_value n given ∙ (ap (λ (b : Bool). option_map (shown b) (value_given n given)) takes ∙ value_shown (value_given n given))))
 
-read_trace : (given : Given) → is_set (first_of (codes "trace") (with_default (with_default (rows given) (rule trace)) (rule json))) ≡ stands trace given
+read_trace : (given : Given) → is_set (first_of (codes "trace") (with_default (with_default (rows given) (rule trace)) (rule json))) ≡ is_given trace given
 read_trace given =
     ap is_set (other_flag (codes "trace") (codes "json") (with_default (rows given) (rule trace)) refl)
-    ∙ (own_flag (codes "trace") (rows given) ∙ (ap is_set (first_value trace given) ∙ flag_shown (value_of trace given)))
+    ∙ (own_flag (codes "trace") (rows given) ∙ (ap is_set (first_value trace given) ∙ flag_shown (value_given trace given)))
 
-read_json : (given : Given) → is_set (first_of (codes "json") (with_default (with_default (rows given) (rule trace)) (rule json))) ≡ stands json given
+read_json : (given : Given) → is_set (first_of (codes "json") (with_default (with_default (rows given) (rule trace)) (rule json))) ≡ is_given json given
 read_json given =
     own_flag (codes "json") (with_default (rows given) (rule trace))
-    ∙ (ap is_set (other_flag (codes "json") (codes "trace") (rows given) refl) ∙ (ap is_set (first_value json given) ∙ flag_shown (value_of json given)))
+    ∙ (ap is_set (other_flag (codes "json") (codes "trace") (rows given) refl) ∙ (ap is_set (first_value json given) ∙ flag_shown (value_given json given)))
 
 read_line : (given : Given) → asked_of (λ id. first_of id (with_default (with_default (rows given) (rule trace)) (rule json))) ≡ asked_by given
-read_line given = λ i. asked (read_value seed given refl refl refl i) (read_value steps given refl refl refl i) (read_value make given refl refl refl i) (read_value txs given refl refl refl i) (read_trace given i) (read_json given i)
+read_line given = λ i. words_asked (read_value seed given refl refl refl i) (read_value steps given refl refl refl i) (read_value make given refl refl refl i) (read_value txs given refl refl refl i) (read_trace given i) (read_json given i)
 
 pub known : Knows rules
 known = record {

@@ -11,7 +11,7 @@ use Rattle.clap.specs.declared.parser.matches.ValueSource.{ValueSource}
 use Rattle.clap.specs.declared.parser.matches.ValueSource.TheVariants.{CommandLine}
 use Rattle.clap.specs.declared.builder.value_parser.Reading.{Reading}
 use Rattle.clap.specs.declared.builder.value_parser.Reading.TheVariants.{AsWritten}
-use Rattle.command_words.specs.Options.{Text, Name, spelled, takes_value, Given, stands}
+use Rattle.command_words.specs.Options.{Given, Name, Text, is_given, spelled, takes_value}
 
 -- the rule of an option with a value, or without
 abbrev pub rule_by : Text → Bool → Rule
@@ -34,11 +34,11 @@ row e = row_at (spelled e.0) (takes_value e.0) e.1
 abbrev pub rows : Given → List Row
 rows = map row
 
-pub has_row-rows : (n : Name) (given : Given) → has_row (spelled n) (rows given) ≡ stands n given
+pub has_row-rows : (n : Name) (given : Given) → has_row (spelled n) (rows given) ≡ is_given n given
 has_row-rows n [] = refl
 has_row-rows n (e ∷ given) = go (bytes_eq (spelled e.0) (spelled n)) (has_row-rows n given)
   where
-    go : (b : Bool) → has_row (spelled n) (rows given) ≡ stands n given
+    go : (b : Bool) → has_row (spelled n) (rows given) ≡ is_given n given
         → (b || has_row (spelled n) (rows given)) ≡ is_some (option_map (λ (x : Name × Text). x.1) (cond b (Some e) (find (λ x. bytes_eq (spelled x.0) (spelled n)) given)))
     go true h = refl
     go false h = h
@@ -80,8 +80,8 @@ pub missing_value : (id : Text) (xs : List Row) → use_fault false (rule_by id 
 missing_value id xs = refl
 
 -- the same of the options of a line
-pub use_is : (n : Name) (t : Text) (given : Given) → use_fault false (rule n) (raw (takes_value n) t) (rows given) ≡ cond (stands n given) (ArgumentConflict ∷ []) []
+pub use_is : (n : Name) (t : Text) (given : Given) → use_fault false (rule n) (raw (takes_value n) t) (rows given) ≡ cond (is_given n given) (ArgumentConflict ∷ []) []
 use_is n t given = use_by (spelled n) (takes_value n) t (rows given) ∙ ap (λ (b : Bool). cond b (ArgumentConflict ∷ []) []) (has_row-rows n given)
 
-pub used_is : (n : Name) (t : Text) (given : Given) → stands n given ≡ false → used (rule n) (raw (takes_value n) t) (rows given) ≡ rows (given ++ (n, t) ∷ [])
+pub used_is : (n : Name) (t : Text) (given : Given) → is_given n given ≡ false → used (rule n) (raw (takes_value n) t) (rows given) ≡ rows (given ++ (n, t) ∷ [])
 used_is n t given h = used_by_rule (spelled n) (takes_value n) t (rows given) (has_row-rows n given ∙ h) ∙ sym (map-append row given ((n, t) ∷ []))

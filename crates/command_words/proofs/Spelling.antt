@@ -3,8 +3,8 @@ use Rattle.std.proofs.Common.{◌≡◌, ◌&&◌, ℕ, Bool, true, false, cond,
 use Rattle.clap.specs.Lexer.{long_of, long_of_rest, name_and_value, short_of, short_of_rest, strip_byte}
 use Rattle.std.specs.Prelude.{bytes_eq, option_and_then}
 use Rattle.std.proofs.lemmas.Slice.Eq.{bytes_eq-Decides}
-use Rattle.command_words.specs.Line.{is_number}
-use Rattle.command_words.specs.Options.{Text, Name, named, option_in}
+use Rattle.command_words.specs.Line.{is_number_text}
+use Rattle.command_words.specs.Options.{Name, Text, named, option_in}
 
 -- the option of a long word, as the parser cuts it
 abbrev pub seen : Option (Text × Option Text) → Option (Name × Option Text)
@@ -37,32 +37,32 @@ option_is (a ∷ b ∷ x ∷ rest) = go (a == 45) (b == 45) refl
     go false t e = refl
 
 -- a word with a hyphen (45) first is no number
-hyphen_no_number : (x : ℕ) (xs : Text) → (x == 45) ≡ true → is_number (x ∷ xs) ≡ false
-hyphen_no_number x xs h = subst (λ (n : ℕ). is_number (n ∷ xs) ≡ false) (sym (eqb-true x 45 h)) (go (nat_le 1 (length (45 ∷ xs))) (nat_le (length (45 ∷ xs)) 20))
+hyphen_no_number : (x : ℕ) (xs : Text) → (x == 45) ≡ true → is_number_text (x ∷ xs) ≡ false
+hyphen_no_number x xs h = subst (λ (n : ℕ). is_number_text (n ∷ xs) ≡ false) (sym (eqb-true x 45 h)) (go (nat_le 1 (length (45 ∷ xs))) (nat_le (length (45 ∷ xs)) 20))
   where
     go : (a b : Bool) → (a && (b && false)) ≡ false
     go true true = refl
     go true false = refl
     go false b = refl
 
-pub long_no_number : (word : Text) (p : Text × Option Text) → long_of word ≡ Some p → is_number word ≡ false
+pub long_no_number : (word : Text) (p : Text × Option Text) → long_of word ≡ Some p → is_number_text word ≡ false
 long_no_number [] p h = refl
 long_no_number (x ∷ xs) p h = go (x == 45) refl h
   where
-    go : (b : Bool) → (x == 45) ≡ b → option_and_then long_of_rest (option_and_then (strip_byte 45) (cond b (Some xs) None)) ≡ Some p → is_number (x ∷ xs) ≡ false
+    go : (b : Bool) → (x == 45) ≡ b → option_and_then long_of_rest (option_and_then (strip_byte 45) (cond b (Some xs) None)) ≡ Some p → is_number_text (x ∷ xs) ≡ false
     go true e h = hyphen_no_number x xs e
     go false e h = cc
 
-pub short_no_number : (word flags : Text) → short_of word ≡ Some flags → is_number word ≡ false
+pub short_no_number : (word flags : Text) → short_of word ≡ Some flags → is_number_text word ≡ false
 short_no_number [] flags h = refl
 short_no_number (x ∷ xs) flags h = go (x == 45) refl h
   where
-    go : (b : Bool) → (x == 45) ≡ b → option_and_then short_of_rest (cond b (Some xs) None) ≡ Some flags → is_number (x ∷ xs) ≡ false
+    go : (b : Bool) → (x == 45) ≡ b → option_and_then short_of_rest (cond b (Some xs) None) ≡ Some flags → is_number_text (x ∷ xs) ≡ false
     go true e h = hyphen_no_number x xs e
     go false e h = cc
 
-pub dashes_no_number : (word : Text) → bytes_eq word (45 ∷ 45 ∷ []) ≡ true → is_number word ≡ false
-dashes_no_number word h = subst (λ (w : Text). is_number w ≡ false) (sym ((bytes_eq-Decides word (45 ∷ 45 ∷ [])).0 h)) refl
+pub dashes_no_number : (word : Text) → bytes_eq word (45 ∷ 45 ∷ []) ≡ true → is_number_text word ≡ false
+dashes_no_number word h = subst (λ (w : Text). is_number_text w ≡ false) (sym ((bytes_eq-Decides word (45 ∷ 45 ∷ [])).0 h)) refl
 
 -- `--` names no option
 pub dashes_named : (word : Text) → bytes_eq word (45 ∷ 45 ∷ []) ≡ true → option_in word ≡ None

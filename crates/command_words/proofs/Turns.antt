@@ -10,8 +10,8 @@ use Rattle.clap.specs.Kinds.{Kinds, or_else}
 use Rattle.clap.specs.Faults.{bundle_fault, check_fault, defaults_fault, flag_word_fault, flags_fault, long_fault, option_fault as option_fault_of, react_fault, settle_fault, step_fault, turn_fault, use_fault, walk_fault}
 use Rattle.clap.specs.declared.error.kind.ErrorKind.TheVariants as kind
 use Rattle.command_words.specs.declared.SimWords.{SimWords}
-use Rattle.command_words.specs.Line.{is_number, asked_by}
-use Rattle.command_words.specs.Options.{Text, Name, spelled, Given, named}
+use Rattle.command_words.specs.Line.{asked_by, is_number_text}
+use Rattle.command_words.specs.Options.{Given, Name, Text, named, spelled}
 use Rattle.command_words.specs.Parse.{asked_of}
 use Rattle.command_words.proofs.Spelling.{short_no_number}
 use Rattle.command_words.proofs.Rules.{rule, rows}
@@ -172,12 +172,12 @@ plain_walked c waiting h word = after_step c word (at h waiting) (plain_word c w
 
 -- a word that is no long option is refused, and then it is no number, or is a plain word
 pub no_long : (c : List Rule) (k : Knows c) (xs : List Row) (p : Option (Text × List Text)) (waiting : Waiting) (word : Text)
-    → ((fails (fault_by c waiting (hold xs p) word false None) ≡ true) × (is_number word ≡ false))
+    → ((fails (fault_by c waiting (hold xs p) word false None) ≡ true) × (is_number_text word ≡ false))
     ⊎ ((fault_by c waiting (hold xs p) word false None ≡ plain_fault c waiting (hold xs p) word) × (walked_by c waiting (hold xs p) word false None ≡ plain_walked c waiting (hold xs p) word))
 no_long c k xs p waiting word = go (short_of word) refl
   where
     go : (o : Option Text) → short_of word ≡ o
-        → ((fails (fault_by c waiting (hold xs p) word false None) ≡ true) × (is_number word ≡ false))
+        → ((fails (fault_by c waiting (hold xs p) word false None) ≡ true) × (is_number_text word ≡ false))
         ⊎ ((fault_by c waiting (hold xs p) word false None ≡ plain_fault c waiting (hold xs p) word) × (walked_by c waiting (hold xs p) word false None ≡ plain_walked c waiting (hold xs p) word))
     go None e = inr (ap (short_fault c waiting (hold xs p) word) e, ap (short_walked c waiting (hold xs p) word) e)
     go (Some flags) e = elim (bundle_is c k xs p flags) [

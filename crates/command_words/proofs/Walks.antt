@@ -9,8 +9,8 @@ use Rattle.clap.specs.Kinds.{Kinds, or_else}
 use Rattle.clap.specs.Faults.{check_fault, defaults_fault, long_fault, settle_fault, step_fault, turn_fault, use_fault, walk_fault}
 use Rattle.clap.specs.declared.error.kind.ErrorKind.TheVariants.{ArgumentConflict}
 use Rattle.command_words.specs.declared.SimWords.{SimWords}
-use Rattle.command_words.specs.Line.{is_number, asked_by, line}
-use Rattle.command_words.specs.Options.{◌>>=◌, Text, Name, spelled, takes_value, Given, State, named, stands, value_of, added, met, options, option_in}
+use Rattle.command_words.specs.Line.{asked_by, is_number_text, line}
+use Rattle.command_words.specs.Options.{Given, Name, State, Text, given_with, is_given, met, named, option_in, options, spelled, takes_value, value_given, ◌>>=◌}
 use Rattle.command_words.specs.Parse.{asked_of}
 use Rattle.command_words.proofs.Refused.{refused_line}
 use Rattle.command_words.proofs.Rules.{rule, rule_by, raw, rows, use_is, used_is}
@@ -102,31 +102,31 @@ waiting_fails c k n xs takes = rw (k.id n, takes) refl
 same_name : (n : Name) → bytes_eq (spelled n) (spelled n) ≡ true
 same_name n = (bytes_eq-Decides (spelled n) (spelled n)).1 refl
 
-value_last : (n : Name) (given : Given) (t : Text) → stands n given ≡ false → value_of n (given ++ (n, t) ∷ []) ≡ Some t
+value_last : (n : Name) (given : Given) (t : Text) → is_given n given ≡ false → value_given n (given ++ (n, t) ∷ []) ≡ Some t
 value_last n [] t h = rw (same_name n)
 value_last n (e ∷ given) t h = go (bytes_eq (spelled e.0) (spelled n)) h (value_last n given t)
   where
     go : (b : Bool) → is_some (option_map (λ (x : Name × Text). x.1) (cond b (Some e) (find (λ x. bytes_eq (spelled x.0) (spelled n)) given))) ≡ false
-        → (stands n given ≡ false → value_of n (given ++ (n, t) ∷ []) ≡ Some t)
+        → (is_given n given ≡ false → value_given n (given ++ (n, t) ∷ []) ≡ Some t)
         → option_map (λ (x : Name × Text). x.1) (cond b (Some e) (find (λ x. bytes_eq (spelled x.0) (spelled n)) (given ++ (n, t) ∷ []))) ≡ Some t
     go true h rec = cc
     go false h rec = rec h
 
 -- the line goes on after an option with its value
 abbrev on : Name → Text → Given → List Text → Option SimWords
-on n t given rest = (added n t given >>= λ next. options next.0 next.1 rest) >>= asked_by
+on n t given rest = (given_with n t given >>= λ next. options next.0 next.1 rest) >>= asked_by
 
-refused_on : (n : Name) (t : Text) (given : Given) (rest : List Text) → takes_value n ≡ true → is_number t ≡ false → on n t given rest ≡ None
-refused_on n t given rest takes bad = go (stands n given) refl
+refused_on : (n : Name) (t : Text) (given : Given) (rest : List Text) → takes_value n ≡ true → is_number_text t ≡ false → on n t given rest ≡ None
+refused_on n t given rest takes bad = go (is_given n given) refl
   where
-    go : (b : Bool) → stands n given ≡ b → (cond b None (Some (given ++ (n, t) ∷ [], None)) >>= λ (next : State). options next.0 next.1 rest) >>= asked_by ≡ None
+    go : (b : Bool) → is_given n given ≡ b → (cond b None (Some (given ++ (n, t) ∷ [], None)) >>= λ (next : State). options next.0 next.1 rest) >>= asked_by ≡ None
     go true e = refl
     go false e = refused_line rest n (given ++ (n, t) ∷ []) None t takes (value_last n given t e) bad
 
-on_again : (n : Name) (t : Text) (given : Given) (rest : List Text) → stands n given ≡ true → on n t given rest ≡ None
+on_again : (n : Name) (t : Text) (given : Given) (rest : List Text) → is_given n given ≡ true → on n t given rest ≡ None
 on_again n t given rest e = ap (λ (b : Bool). (cond b None (Some (given ++ (n, t) ∷ [], None)) >>= λ (next : State). options next.0 next.1 rest) >>= asked_by) e
 
-on_first : (n : Name) (t : Text) (given : Given) (rest : List Text) → stands n given ≡ false → on n t given rest ≡ (options (given ++ (n, t) ∷ []) None rest >>= asked_by)
+on_first : (n : Name) (t : Text) (given : Given) (rest : List Text) → is_given n given ≡ false → on n t given rest ≡ (options (given ++ (n, t) ∷ []) None rest >>= asked_by)
 on_first n t given rest e = ap (λ (b : Bool). (cond b None (Some (given ++ (n, t) ∷ [], None)) >>= λ (next : State). options next.0 next.1 rest) >>= asked_by) e
 
 -- ---- where an option waits
@@ -135,12 +135,12 @@ raw_is : (n : Name) (t : Text) → takes_value n ≡ true → t ∷ [] ≡ raw (
 raw_is n t takes = sym (ap (λ (b : Bool). raw b t) takes)
 
 held_fault : (c : List Rule) (k : Knows c) (n : Name) (t : Text) (given : Given) → takes_value n ≡ true
-    → settle_fault c false (hold (rows given) (Some (spelled n, t ∷ []))) ≡ cond (stands n given) (ArgumentConflict ∷ []) []
+    → settle_fault c false (hold (rows given) (Some (spelled n, t ∷ []))) ≡ cond (is_given n given) (ArgumentConflict ∷ []) []
 held_fault c k n t given takes =
     ap (λ (o : Option Rule). option_map_or (λ (a : Rule). use_fault false a (t ∷ []) (rows given)) o []) (k.id n)
     ∙ (ap (λ (vs : List Text). use_fault false (rule n) vs (rows given)) (raw_is n t takes) ∙ use_is n t given)
 
-held_rows : (c : List Rule) (k : Knows c) (n : Name) (t : Text) (given : Given) → takes_value n ≡ true → stands n given ≡ false
+held_rows : (c : List Rule) (k : Knows c) (n : Name) (t : Text) (given : Given) → takes_value n ≡ true → is_given n given ≡ false
     → settled_rows c (Some (spelled n, t ∷ [])) (rows given) ≡ rows (given ++ (n, t) ∷ [])
 held_rows c k n t given takes e =
     ap (λ (o : Option Rule). used_by_id o (t ∷ []) (rows given)) (k.id n)
@@ -148,9 +148,9 @@ held_rows c k n t given takes e =
 
 held_on : (c : List Rule) (k : Knows c) (rest : List Text) → Goes c rest → (n : Name) (t : Text) (given : Given) → takes_value n ≡ true
     → verdict c (at (hold (rows given) (Some (spelled n, t ∷ []))) idle) rest ≡ on n t given rest
-held_on c k rest ih n t given takes = go (stands n given) refl
+held_on c k rest ih n t given takes = go (is_given n given) refl
   where
-    go : (b : Bool) → stands n given ≡ b → verdict c (at (hold (rows given) (Some (spelled n, t ∷ []))) idle) rest ≡ on n t given rest
+    go : (b : Bool) → is_given n given ≡ b → verdict c (at (hold (rows given) (Some (spelled n, t ∷ []))) idle) rest ≡ on n t given rest
     go true e = unsettled c k (rows given) (Some (spelled n, t ∷ [])) rest (ap fails (held_fault c k n t given takes ∙ ap (λ (b : Bool). cond b (ArgumentConflict ∷ []) []) e))
         ∙ sym (on_again n t given rest e)
     go false e = ih (rows given) (Some (spelled n, t ∷ [])) (given ++ (n, t) ∷ []) (held_fault c k n t given takes ∙ ap (λ (b : Bool). cond b (ArgumentConflict ∷ []) []) e) (held_rows c k n t given takes e)
@@ -208,13 +208,13 @@ used_on : (c : List Rule) (k : Knows c) (word : Text) (rest : List Text) → Goe
     → turn_fault (ours c) [] (at (hold xs p) idle) word ≡ by_use c xs p (spelled n) (takes_value n) t
     → walked c [] (at (hold xs p) idle) word ≡ at (hold (used (rule n) (raw (takes_value n) t) (settled_rows c p xs)) None) idle
     → verdict c (at (hold xs p) idle) (word ∷ rest) ≡ on n t given rest
-used_on c k word rest ih xs p given passes same n t faults moves = go (stands n given) refl
+used_on c k word rest ih xs p given passes same n t faults moves = go (is_given n given) refl
   where
-    faults_are : turn_fault (ours c) [] (at (hold xs p) idle) word ≡ or_else (cond (stands n given) (ArgumentConflict ∷ []) []) []
+    faults_are : turn_fault (ours c) [] (at (hold xs p) idle) word ≡ or_else (cond (is_given n given) (ArgumentConflict ∷ []) []) []
     faults_are = faults ∙ (ap₂ (λ (a : Kinds) (ys : List Row). or_else (or_else a (use_fault false (rule n) (raw (takes_value n) t) ys)) []) passes same
         ∙ ap (λ (a : Kinds). or_else a []) (use_is n t given))
 
-    go : (b : Bool) → stands n given ≡ b → verdict c (at (hold xs p) idle) (word ∷ rest) ≡ on n t given rest
+    go : (b : Bool) → is_given n given ≡ b → verdict c (at (hold xs p) idle) (word ∷ rest) ≡ on n t given rest
     go true e = stopped_at c (at (hold xs p) idle) word rest (ap fails (faults_are ∙ ap (λ (b : Bool). or_else (cond b (ArgumentConflict ∷ []) []) []) e)) ∙ sym (on_again n t given rest e)
     go false e = turned c (at (hold xs p) idle) (at (hold (used (rule n) (raw (takes_value n) t) (settled_rows c p xs)) None) idle) word rest
         (faults_are ∙ ap (λ (b : Bool). or_else (cond b (ArgumentConflict ∷ []) []) []) e) moves
@@ -225,16 +225,16 @@ abbrev met_on : Given → List Text → Name → Option Text → Option SimWords
 met_on given rest n v = (met given n v >>= λ next. options next.0 next.1 rest) >>= asked_by
 
 met_value : (n : Name) (t : Text) (given : Given) (rest : List Text) → takes_value n ≡ true → met_on given rest n (Some t) ≡ on n t given rest
-met_value n t given rest takes = ap (λ (b : Bool). (cond b (added n t given) None >>= λ (next : State). options next.0 next.1 rest) >>= asked_by) takes
+met_value n t given rest takes = ap (λ (b : Bool). (cond b (given_with n t given) None >>= λ (next : State). options next.0 next.1 rest) >>= asked_by) takes
 
 met_waiting : (n : Name) (given : Given) (rest : List Text) → takes_value n ≡ true → met_on given rest n None ≡ (options given (Some n) rest >>= asked_by)
-met_waiting n given rest takes = ap (λ (b : Bool). (cond b (Some (given, Some n)) (added n [] given) >>= λ (next : State). options next.0 next.1 rest) >>= asked_by) takes
+met_waiting n given rest takes = ap (λ (b : Bool). (cond b (Some (given, Some n)) (given_with n [] given) >>= λ (next : State). options next.0 next.1 rest) >>= asked_by) takes
 
 met_flag : (n : Name) (given : Given) (rest : List Text) → takes_value n ≡ false → met_on given rest n None ≡ on n [] given rest
-met_flag n given rest takes = ap (λ (b : Bool). (cond b (Some (given, Some n)) (added n [] given) >>= λ (next : State). options next.0 next.1 rest) >>= asked_by) takes
+met_flag n given rest takes = ap (λ (b : Bool). (cond b (Some (given, Some n)) (given_with n [] given) >>= λ (next : State). options next.0 next.1 rest) >>= asked_by) takes
 
 met_unneeded : (n : Name) (t : Text) (given : Given) (rest : List Text) → takes_value n ≡ false → met_on given rest n (Some t) ≡ None
-met_unneeded n t given rest takes = ap (λ (b : Bool). (cond b (added n t given) None >>= λ (next : State). options next.0 next.1 rest) >>= asked_by) takes
+met_unneeded n t given rest takes = ap (λ (b : Bool). (cond b (given_with n t given) None >>= λ (next : State). options next.0 next.1 rest) >>= asked_by) takes
 
 module _ (c : List Rule) (k : Knows c) (word : Text) (rest : List Text) (goes : Goes c rest) (waits : Waits c rest)
     (xs : List Row) (p : Option (Text × List Text)) (given : Given) (passes : settle_fault c false (hold xs p) ≡ []) (same : settled_rows c p xs ≡ rows given) where

@@ -5,30 +5,30 @@ use Rattle.std.specs.Str.Parse.{digits_value}
 use Rattle.command_words.specs.declared.Make.{Make}
 use Rattle.command_words.specs.declared.SimWords.{SimWords}
 use Rattle.command_words.specs.Options as name
-use Rattle.command_words.specs.Options.{◌>>=◌, Text, Given, value_of, stands, options}
+use Rattle.command_words.specs.Options.{Given, Text, is_given, options, value_given, ◌>>=◌}
 
-abbrev pub is_digit : ℕ → Bool
-is_digit b = nat_le 48 b && nat_le b 57
+abbrev pub is_digit_byte : ℕ → Bool
+is_digit_byte b = nat_le 48 b && nat_le b 57
 
 -- 1 to 20 decimal digits
-abbrev pub is_number : Text → Bool
-is_number text = nat_le 1 (length text) && (nat_le (length text) 20 && list_all is_digit text)
+abbrev pub is_number_text : Text → Bool
+is_number_text text = nat_le 1 (length text) && (nat_le (length text) 20 && list_all is_digit_byte text)
 
 -- the number from `least` to `most` that the value is
-abbrev pub number : ℕ → ℕ → Text → Option ℕ
-number least most text = let n = digits_value 10 text in if is_number text && (nat_le least n && nat_le n most) then Some n else None
+abbrev pub number_in_range : ℕ → ℕ → Text → Option ℕ
+number_in_range least most text = let n = digits_value 10 text in if is_number_text text && (nat_le least n && nat_le n most) then Some n else None
 
 -- the same of an option, or what is meant where it does not stand
 abbrev pub number_or : ℕ → ℕ → ℕ → Option Text → Option ℕ
 number_or default least most None = Some default
-number_or default least most (Some text) = number least most text
+number_or default least most (Some text) = number_in_range least most text
 
 -- the values of `--make` and `--txs`, which stands only with the first
 abbrev pub made : Option Text → Option Text → Option (Option Make)
 made None None = Some None
 made None (Some txs) = None
 made (Some sessions) txs = do
-  count ← number 1 64 sessions
+  count ← number_in_range 1 64 sessions
   each ← number_or 20 1 100 txs
   Some (Some (record { sessions = count; txs = each }))
 
@@ -37,8 +37,8 @@ abbrev pub agree : Bool → Bool → Bool → Bool
 agree trace json make = not (trace && make) && not (json && (trace || make))
 
 -- what is asked for by the values of `--seed`, `--steps`, `--make` and `--txs`, and by whether `--trace` and `--json` stand
-abbrev pub asked : Option Text → Option Text → Option Text → Option Text → Bool → Bool → Option SimWords
-asked seed steps make txs trace json = do
+abbrev pub words_asked : Option Text → Option Text → Option Text → Option Text → Bool → Bool → Option SimWords
+words_asked seed steps make txs trace json = do
   first ← number_or 0 0 18446744073709551615 seed
   most ← number_or 1000000 1 4000000 steps
   making ← made make txs
@@ -46,7 +46,7 @@ asked seed steps make txs trace json = do
 
 abbrev pub asked_by : Given → Option SimWords
 asked_by given =
-    asked (value_of name.seed given) (value_of name.steps given) (value_of name.make given) (value_of name.txs given) (stands name.trace given) (stands name.json given)
+    words_asked (value_given name.seed given) (value_given name.steps given) (value_given name.make given) (value_given name.txs given) (is_given name.trace given) (is_given name.json given)
 
 -- what the words ask for, or none where they are no command line
 abbrev pub line : List Text → Option SimWords

@@ -55,28 +55,28 @@ option_in _ = None
 abbrev pub Given : Type 0
 Given = List (Name × Text)
 
-abbrev pub value_of : Name → Given → Option Text
-value_of name given = option_map (λ entry. entry.1) (find (λ entry. bytes_eq (spelled entry.0) (spelled name)) given)
+abbrev pub value_given : Name → Given → Option Text
+value_given name given = option_map (λ entry. entry.1) (find (λ entry. bytes_eq (spelled entry.0) (spelled name)) given)
 
-abbrev pub stands : Name → Given → Bool
-stands name given = is_some (value_of name given)
+abbrev pub is_given : Name → Given → Bool
+is_given name given = is_some (value_given name given)
 
 -- the options so far, and the one whose value is the next word
 abbrev pub State : Type 0
 State = Given × Option Name
 
 -- one more option, which stands at most once
-abbrev pub added : Name → Text → Given → Option State
-added name value given = if stands name given then None else Some (given ++ (name, value) ∷ [], None)
+abbrev pub given_with : Name → Text → Given → Option State
+given_with name value given = if is_given name given then None else Some (given ++ (name, value) ∷ [], None)
 
 -- the word of an option, with the value that is in it
 abbrev pub met : Given → Name → Option Text → Option State
-met given name (Some value) = if takes_value name then added name value given else None
-met given name None = if takes_value name then Some (given, Some name) else added name [] given
+met given name (Some value) = if takes_value name then given_with name value given else None
+met given name None = if takes_value name then Some (given, Some name) else given_with name [] given
 
 -- one more word: the value for which an option waits, or an option
 abbrev pub turn : Given → Option Name → Text → Option State
-turn given (Some name) word = added name word given
+turn given (Some name) word = given_with name word given
 turn given None word = option_in word >>= λ found. met given found.0 found.1
 
 -- `--` may stand last, and means nothing

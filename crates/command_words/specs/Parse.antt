@@ -7,7 +7,7 @@ use Rattle.clap.specs.Simple.{new_shape}
 use Rattle.clap.specs.declared.builder.ArgAction.TheVariants.{SetTrue}
 use Rattle.clap.specs.declared.error.kind.ErrorKind.{ErrorKind}
 use Rattle.clap.specs.declared.error.kind.ErrorKind.TheVariants.{OutOfMemory}
-use Rattle.command_words.specs.Line.{asked}
+use Rattle.command_words.specs.Line.{words_asked}
 use Rattle.command_words.specs.declared.SimWords.{SimWords}
 use Rattle.command_words.specs.declared.WordsFault.{WordsFault}
 use Rattle.command_words.specs.declared.WordsFault.TheVariants.{Usage, NoMemory}
@@ -32,8 +32,8 @@ sim_app = with_rule (with_rule (with_rule (with_rule (with_rule (with_rule bare
     (flagged (codes "trace"))) (flagged (codes "json"))
 
 -- the text of an option, behind its reference
-abbrev pub told : Option (Bor Text) → Option Text
-told = option_map (λ text. text.now)
+abbrev pub text_told : Option (Bor Text) → Option Text
+text_told = option_map (λ text. text.now)
 
 -- a flag's text, which is `false` where the flag does not stand
 abbrev pub is_set : Option Text → Bool
@@ -41,7 +41,7 @@ is_set text = option_map_or (λ t. bytes_eq t (codes "true")) text false
 
 -- what is asked for by the texts of the options
 abbrev pub asked_of : (Text → Option Text) → Option SimWords
-asked_of text = asked (text (codes "seed")) (text (codes "steps")) (text (codes "make")) (text (codes "txs")) (is_set (text (codes "trace"))) (is_set (text (codes "json")))
+asked_of text = words_asked (text (codes "seed")) (text (codes "steps")) (text (codes "make")) (text (codes "txs")) (is_set (text (codes "trace"))) (is_set (text (codes "json")))
 
 -- what a refusal of the parser is
 abbrev pub fault : ErrorKind → WordsFault

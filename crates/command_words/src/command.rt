@@ -5,7 +5,7 @@
 
 ghost use Rattle.std.specs.Prelude.{◌≡◌, false, IfOk};
 ghost use Rattle.clap.specs.Words.{app_of, first_value, found_of, rule_of};
-ghost use Rattle.command_words.specs.Parse.{valued, flagged, sim_app, is_set, asked_of, fault};
+ghost use Rattle.command_words.specs.Parse.{asked_of, fault, flagged, is_set, sim_app, valued};
 
 use crate::values::asked;
 use crate::{SimWords, WordsFault};

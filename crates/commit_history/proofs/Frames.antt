@@ -1,9 +1,9 @@
 -- What the answer of a call leaves alone.
 use Rattle.std.proofs.Common.{◌≡◌, ◌≤◌, ◌-◌, ◌^◌, List, Some, None, Result, Ok, Err, true, false, if◌then◌else◌, ◌==◌, ◌&&◌, ◌||◌, ℕ, refl, ap, sym, ◌∙◌, arith}
-use Rattle.base_words.specs.Copies.{Found}
-use Rattle.base_words.specs.Numbers.{added}
+use Rattle.part_model.specs.Copies.{Found}
+use Rattle.part_model.specs.Numbers.{sum_with_value}
 use Rattle.commit_history.specs.Following.{assembled}
-use Rattle.commit_history.specs.Lines.{joined, line_after}
+use Rattle.commit_history.specs.Lines.{line_after, walk_at_line}
 use Rattle.commit_history.specs.declared.line.Line.{Line}
 use Rattle.ignite_types.specs.Names.{key_cmp}
 use Rattle.ignite_types.specs.declared.answer.Answer.{Answer}
@@ -12,7 +12,7 @@ use Rattle.ignite_types.specs.declared.scenario.Command.{Command}
 use Rattle.ignite_types.specs.declared.scenario.Mode.{Mode}
 use Rattle.ignite_types.specs.declared.text.Key.{Key}
 use Rattle.ordered_table.specs.Entries.{at}
-use Rattle.tx_model.specs.History.{accessed, adds_key, after_access, answered, counted_access, first_read, is_done, known_value, no_call, reads_key, writes_sum}
+use Rattle.tx_model.specs.History.{is_done, known_value, walk_after_answer, walk_after_counted_access, walk_after_done_access, walk_after_told_fault, walk_with_add, walk_with_first_read, walk_with_read, walk_with_sum, walk_without_call}
 use Rattle.tx_model.specs.declared.walk.Walk.{Walk}
 use Rattle.ignite_types.specs.declared.answer.Answer.TheVariants as answer
 use Rattle.ignite_types.specs.declared.scenario.Command.TheVariants as command
@@ -21,42 +21,42 @@ use Rattle.ignite_types.specs.declared.scenario.Command.TheVariants as command
 abbrev pub beside : List (Key × Found) → List TxId → Walk → Walk
 beside near overs w = record w { near = near; overs = overs }
 
-read_beside : (near : List (Key × Found)) (overs : List TxId) (w : Walk) (key : Key) → reads_key (beside near overs w) key ≡ beside near overs (reads_key w key)
+read_beside : (near : List (Key × Found)) (overs : List TxId) (w : Walk) (key : Key) → walk_with_read (beside near overs w) key ≡ beside near overs (walk_with_read w key)
 read_beside near overs w key =
-    elim (at key_cmp w.reads key) as (λ r. first_read (beside near overs w) key r (at key_cmp w.writes key) ≡ beside near overs (first_read w key r (at key_cmp w.writes key))) [
-      | None ↦ elim (at key_cmp w.writes key) as (λ r. first_read (beside near overs w) key None r ≡ beside near overs (first_read w key None r)) [
+    elim (at key_cmp w.reads key) as (λ r. walk_with_first_read (beside near overs w) key r (at key_cmp w.writes key) ≡ beside near overs (walk_with_first_read w key r (at key_cmp w.writes key))) [
+      | None ↦ elim (at key_cmp w.writes key) as (λ r. walk_with_first_read (beside near overs w) key None r ≡ beside near overs (walk_with_first_read w key None r)) [
         | None ↦ refl
         | Some x ↦ refl
       ]
       | Some x ↦ refl
     ]
 
-sum_beside : (near : List (Key × Found)) (overs : List TxId) (w : Walk) (key : Key) (sum : Result (List ℕ) Answer) → writes_sum (beside near overs w) key sum ≡ beside near overs (writes_sum w key sum)
+sum_beside : (near : List (Key × Found)) (overs : List TxId) (w : Walk) (key : Key) (sum : Result (List ℕ) Answer) → walk_with_sum (beside near overs w) key sum ≡ beside near overs (walk_with_sum w key sum)
 sum_beside near overs w key (Ok value) = refl
 sum_beside near overs w key (Err a) = refl
 
 -- an access looks at neither
-pub access_beside : (near : List (Key × Found)) (overs : List TxId) (w : Walk) (c : Command) → accessed (beside near overs w) c ≡ beside near overs (accessed w c)
+pub access_beside : (near : List (Key × Found)) (overs : List TxId) (w : Walk) (c : Command) → walk_after_done_access (beside near overs w) c ≡ beside near overs (walk_after_done_access w c)
 access_beside near overs w (command.Get key) = read_beside near overs w key
 access_beside near overs w (command.Put key value) = refl
 access_beside near overs w (command.Remove key) = refl
 access_beside near overs w (command.Add key amount) =
-    ap (λ v. adds_key v key amount) (read_beside near overs w key)
-    ∙ sum_beside near overs (reads_key w key) key (added (known_value (reads_key w key) key) amount)
+    ap (λ v. walk_with_add v key amount) (read_beside near overs w key)
+    ∙ sum_beside near overs (walk_with_read w key) key (sum_with_value (known_value (walk_with_read w key) key) amount)
 access_beside near overs w (command.Begin mode timeout) = refl
 access_beside near overs w command.Commit = refl
 access_beside near overs w command.Rollback = refl
 access_beside near overs w (command.Sleep n) = refl
 access_beside near overs w command.Close = refl
 
-counted_beside : (near : List (Key × Found)) (overs : List TxId) (tx : TxId) (w : Walk) (c : Command) (a : Answer) → counted_access tx (beside near overs w) c a ≡ beside near overs (counted_access tx w c a)
+counted_beside : (near : List (Key × Found)) (overs : List TxId) (tx : TxId) (w : Walk) (c : Command) (a : Answer) → walk_after_counted_access tx (beside near overs w) c a ≡ beside near overs (walk_after_counted_access tx w c a)
 counted_beside near overs tx w c a =
-    elim ((w.started == tx.number) && is_done a) as (λ b. (if b then accessed (beside near overs w) c else beside near overs w) ≡ beside near overs (if b then accessed w c else w)) [
+    elim ((w.started == tx.number) && is_done a) as (λ b. (if b then walk_after_done_access (beside near overs w) c else beside near overs w) ≡ beside near overs (if b then walk_after_done_access w c else w)) [
       | true ↦ access_beside near overs w c
       | false ↦ refl
     ]
 
-after_beside : (near : List (Key × Found)) (overs : List TxId) (w : Walk) (a : Answer) → no_call (after_access (beside near overs w) a) ≡ beside near overs (no_call (after_access w a))
+after_beside : (near : List (Key × Found)) (overs : List TxId) (w : Walk) (a : Answer) → walk_without_call (walk_after_told_fault (beside near overs w) a) ≡ beside near overs (walk_without_call (walk_after_told_fault w a))
 after_beside near overs w answer.Done = refl
 after_beside near overs w (answer.Found value) = refl
 after_beside near overs w answer.Absent = refl
@@ -71,11 +71,11 @@ after_beside near overs w answer.TransactionOpen = refl
 after_beside near overs w answer.Skipped = refl
 after_beside near overs w (answer.NoCache cache) = refl
 
-other_beside : (near : List (Key × Found)) (overs : List TxId) (tx : TxId) (w : Walk) (c : Command) (a : Answer) → no_call (after_access (counted_access tx (beside near overs w) c a) a) ≡ beside near overs (no_call (after_access (counted_access tx w c a) a))
+other_beside : (near : List (Key × Found)) (overs : List TxId) (tx : TxId) (w : Walk) (c : Command) (a : Answer) → walk_without_call (walk_after_told_fault (walk_after_counted_access tx (beside near overs w) c a) a) ≡ beside near overs (walk_without_call (walk_after_told_fault (walk_after_counted_access tx w c a) a))
 other_beside near overs tx w c a =
-    ap (λ v. no_call (after_access v a)) (counted_beside near overs tx w c a) ∙ after_beside near overs (counted_access tx w c a) a
+    ap (λ v. walk_without_call (walk_after_told_fault v a)) (counted_beside near overs tx w c a) ∙ after_beside near overs (walk_after_counted_access tx w c a) a
 
-begin_beside : (near : List (Key × Found)) (overs : List TxId) (tx : TxId) (w : Walk) (mode : Mode) (timeout : ℕ) (a : Answer) → answered tx (beside near overs w) (Some (command.Begin mode timeout)) a ≡ beside near overs (answered tx w (Some (command.Begin mode timeout)) a)
+begin_beside : (near : List (Key × Found)) (overs : List TxId) (tx : TxId) (w : Walk) (mode : Mode) (timeout : ℕ) (a : Answer) → walk_after_answer tx (beside near overs w) (Some (command.Begin mode timeout)) a ≡ beside near overs (walk_after_answer tx w (Some (command.Begin mode timeout)) a)
 begin_beside near overs tx w mode timeout answer.Done = refl
 begin_beside near overs tx w mode timeout (answer.Found value) = refl
 begin_beside near overs tx w mode timeout answer.Absent = refl
@@ -91,7 +91,7 @@ begin_beside near overs tx w mode timeout answer.Skipped = refl
 begin_beside near overs tx w mode timeout (answer.NoCache cache) = refl
 
 -- the answer of a call looks at neither
-pub answer_beside : (near : List (Key × Found)) (overs : List TxId) (tx : TxId) (w : Walk) (c : Command) (a : Answer) → answered tx (beside near overs w) (Some c) a ≡ beside near overs (answered tx w (Some c) a)
+pub answer_beside : (near : List (Key × Found)) (overs : List TxId) (tx : TxId) (w : Walk) (c : Command) (a : Answer) → walk_after_answer tx (beside near overs w) (Some c) a ≡ beside near overs (walk_after_answer tx w (Some c) a)
 answer_beside near overs tx w (command.Begin mode timeout) a = begin_beside near overs tx w mode timeout a
 answer_beside near overs tx w command.Commit a = refl
 answer_beside near overs tx w command.Rollback a = refl
@@ -104,35 +104,35 @@ answer_beside near overs tx w (command.Sleep n) a = other_beside near overs tx w
 
 -- What an access leaves of the session.
 
-read_line : (l : Line) (w : Walk) (key : Key) → line_after l (reads_key w key) ≡ line_after l w
+read_line : (l : Line) (w : Walk) (key : Key) → line_after l (walk_with_read w key) ≡ line_after l w
 read_line l w key =
-    elim (at key_cmp w.reads key) as (λ r. line_after l (first_read w key r (at key_cmp w.writes key)) ≡ line_after l w) [
-      | None ↦ elim (at key_cmp w.writes key) as (λ r. line_after l (first_read w key None r) ≡ line_after l w) [
+    elim (at key_cmp w.reads key) as (λ r. line_after l (walk_with_first_read w key r (at key_cmp w.writes key)) ≡ line_after l w) [
+      | None ↦ elim (at key_cmp w.writes key) as (λ r. line_after l (walk_with_first_read w key None r) ≡ line_after l w) [
         | None ↦ refl
         | Some x ↦ refl
       ]
       | Some x ↦ refl
     ]
 
-sum_line : (l : Line) (w : Walk) (key : Key) (sum : Result (List ℕ) Answer) → line_after l (writes_sum w key sum) ≡ line_after l w
+sum_line : (l : Line) (w : Walk) (key : Key) (sum : Result (List ℕ) Answer) → line_after l (walk_with_sum w key sum) ≡ line_after l w
 sum_line l w key (Ok value) = refl
 sum_line l w key (Err a) = refl
 
-access_line : (l : Line) (w : Walk) (c : Command) → line_after l (accessed w c) ≡ line_after l w
+access_line : (l : Line) (w : Walk) (c : Command) → line_after l (walk_after_done_access w c) ≡ line_after l w
 access_line l w (command.Get key) = read_line l w key
 access_line l w (command.Put key value) = refl
 access_line l w (command.Remove key) = refl
 access_line l w (command.Add key amount) =
-    sum_line l (reads_key w key) key (added (known_value (reads_key w key) key) amount) ∙ read_line l w key
+    sum_line l (walk_with_read w key) key (sum_with_value (known_value (walk_with_read w key) key) amount) ∙ read_line l w key
 access_line l w (command.Begin mode timeout) = refl
 access_line l w command.Commit = refl
 access_line l w command.Rollback = refl
 access_line l w (command.Sleep n) = refl
 access_line l w command.Close = refl
 
-counted_line : (l : Line) (tx : TxId) (w : Walk) (c : Command) (a : Answer) → line_after l (counted_access tx w c a) ≡ line_after l w
+counted_line : (l : Line) (tx : TxId) (w : Walk) (c : Command) (a : Answer) → line_after l (walk_after_counted_access tx w c a) ≡ line_after l w
 counted_line l tx w c a =
-    elim ((w.started == tx.number) && is_done a) as (λ b. line_after l (if b then accessed w c else w) ≡ line_after l w) [
+    elim ((w.started == tx.number) && is_done a) as (λ b. line_after l (if b then walk_after_done_access w c else w) ≡ line_after l w) [
       | true ↦ access_line l w c
       | false ↦ refl
     ]
@@ -142,7 +142,7 @@ abbrev ended : Line → Answer → Line
 ended l (answer.Failed why) = record l { skipping = l.block || l.skipping; block = false; called = None }
 ended l _ = record l { called = None }
 
-ended_is : (l : Line) (w : Walk) (a : Answer) → line_after l (no_call (after_access w a)) ≡ ended (line_after l w) a
+ended_is : (l : Line) (w : Walk) (a : Answer) → line_after l (walk_without_call (walk_after_told_fault w a)) ≡ ended (line_after l w) a
 ended_is l w answer.Done = refl
 ended_is l w (answer.Found value) = refl
 ended_is l w answer.Absent = refl
@@ -157,7 +157,7 @@ ended_is l w answer.TransactionOpen = refl
 ended_is l w answer.Skipped = refl
 ended_is l w (answer.NoCache cache) = refl
 
-ended_walk : (l : Line) (v : Walk) (near : List (Key × Found)) (overs : List TxId) (g : Found) (a : Answer) → no_call (after_access (assembled l v near overs g) a) ≡ assembled (ended l a) v near overs None
+ended_walk : (l : Line) (v : Walk) (near : List (Key × Found)) (overs : List TxId) (g : Found) (a : Answer) → walk_without_call (walk_after_told_fault (assembled l v near overs g) a) ≡ assembled (ended l a) v near overs None
 ended_walk l v near overs g answer.Done = refl
 ended_walk l v near overs g (answer.Found value) = refl
 ended_walk l v near overs g answer.Absent = refl
@@ -174,15 +174,15 @@ ended_walk l v near overs g (answer.NoCache cache) = refl
 
 -- an answer of another transaction's access
 other_apart : (tx cur : TxId) (l : Line) (v x : Walk) (near : List (Key × Found)) (overs : List TxId) (g : Found) (c : Command) (a : Answer) → (l.started == tx.number) ≡ false →
-    no_call (after_access (counted_access tx (assembled l v near overs g) c a) a) ≡ assembled (line_after l (no_call (after_access (counted_access cur (joined l x) c a) a))) v near overs None
+    walk_without_call (walk_after_told_fault (walk_after_counted_access tx (assembled l v near overs g) c a) a) ≡ assembled (line_after l (walk_without_call (walk_after_told_fault (walk_after_counted_access cur (walk_at_line l x) c a) a))) v near overs None
 other_apart tx cur l v x near overs g c a apart =
-    let line : line_after l (no_call (after_access (counted_access cur (joined l x) c a) a)) ≡ ended l a =
-    ended_is l (counted_access cur (joined l x) c a) a ∙ ap (λ k. ended k a) (counted_line l cur (joined l x) c a) in
-    let gone : no_call (after_access (counted_access tx (assembled l v near overs g) c a) a) ≡ assembled (ended l a) v near overs None = rw apart (ended_walk l v near overs g a) in
+    let line : line_after l (walk_without_call (walk_after_told_fault (walk_after_counted_access cur (walk_at_line l x) c a) a)) ≡ ended l a =
+    ended_is l (walk_after_counted_access cur (walk_at_line l x) c a) a ∙ ap (λ k. ended k a) (counted_line l cur (walk_at_line l x) c a) in
+    let gone : walk_without_call (walk_after_told_fault (walk_after_counted_access tx (assembled l v near overs g) c a) a) ≡ assembled (ended l a) v near overs None = rw apart (ended_walk l v near overs g a) in
     gone ∙ sym (ap (λ (k : Line). assembled k v near overs None) line)
 
 begin_apart : (tx cur : TxId) (l : Line) (v x : Walk) (near : List (Key × Found)) (overs : List TxId) (g : Found) (mode : Mode) (timeout : ℕ) (a : Answer) →
-    answered tx (assembled l v near overs g) (Some (command.Begin mode timeout)) a ≡ assembled (line_after l (answered cur (joined l x) (Some (command.Begin mode timeout)) a)) v near overs None
+    walk_after_answer tx (assembled l v near overs g) (Some (command.Begin mode timeout)) a ≡ assembled (line_after l (walk_after_answer cur (walk_at_line l x) (Some (command.Begin mode timeout)) a)) v near overs None
 begin_apart tx cur l v x near overs g mode timeout answer.Done = refl
 begin_apart tx cur l v x near overs g mode timeout (answer.Found value) = refl
 begin_apart tx cur l v x near overs g mode timeout answer.Absent = refl
@@ -199,7 +199,7 @@ begin_apart tx cur l v x near overs g mode timeout (answer.NoCache cache) = refl
 
 -- an answer of another transaction's call changes no more than the session's part
 pub answer_apart : (tx cur : TxId) (l : Line) (v x : Walk) (near : List (Key × Found)) (overs : List TxId) (g : Found) (c : Command) (a : Answer) → (l.started == tx.number) ≡ false →
-    answered tx (assembled l v near overs g) (Some c) a ≡ assembled (line_after l (answered cur (joined l x) (Some c) a)) v near overs None
+    walk_after_answer tx (assembled l v near overs g) (Some c) a ≡ assembled (line_after l (walk_after_answer cur (walk_at_line l x) (Some c) a)) v near overs None
 answer_apart tx cur l v x near overs g (command.Begin mode timeout) a apart = begin_apart tx cur l v x near overs g mode timeout a
 answer_apart tx cur l v x near overs g command.Commit a apart = refl
 answer_apart tx cur l v x near overs g command.Rollback a apart = refl
@@ -233,13 +233,13 @@ Starts before after = (after ≤ 2 ^ 64 - 1) × (before ≤ after)
 starts_same : (before after : ℕ) → after ≡ before → before ≤ 2 ^ 64 - 1 → Starts before after
 starts_same before after same fits = rw same (fits, omega arith)
 
-other_starts : (tx : TxId) (l : Line) (w : Walk) (c : Command) (a : Answer) → w.started ≤ 2 ^ 64 - 1 → Starts w.started (no_call (after_access (counted_access tx w c a) a)).started
+other_starts : (tx : TxId) (l : Line) (w : Walk) (c : Command) (a : Answer) → w.started ≤ 2 ^ 64 - 1 → Starts w.started (walk_without_call (walk_after_told_fault (walk_after_counted_access tx w c a) a)).started
 other_starts tx l w c a fits =
-    let same : (no_call (after_access (counted_access tx w c a) a)).started ≡ w.started =
-    ap (λ (k : Line). k.started) (ended_is l (counted_access tx w c a) a ∙ ap (λ k. ended k a) (counted_line l tx w c a)) ∙ ended_started (line_after l w) a in
-    starts_same w.started (no_call (after_access (counted_access tx w c a) a)).started same fits
+    let same : (walk_without_call (walk_after_told_fault (walk_after_counted_access tx w c a) a)).started ≡ w.started =
+    ap (λ (k : Line). k.started) (ended_is l (walk_after_counted_access tx w c a) a ∙ ap (λ k. ended k a) (counted_line l tx w c a)) ∙ ended_started (line_after l w) a in
+    starts_same w.started (walk_without_call (walk_after_told_fault (walk_after_counted_access tx w c a) a)).started same fits
 
-begin_starts : (tx : TxId) (w : Walk) (mode : Mode) (timeout : ℕ) (a : Answer) → w.started ≤ 2 ^ 64 - 1 → Starts w.started (answered tx w (Some (command.Begin mode timeout)) a).started
+begin_starts : (tx : TxId) (w : Walk) (mode : Mode) (timeout : ℕ) (a : Answer) → w.started ≤ 2 ^ 64 - 1 → Starts w.started (walk_after_answer tx w (Some (command.Begin mode timeout)) a).started
 begin_starts tx w mode timeout answer.Done fits = (omega (arith, fits), omega (arith, fits))
 begin_starts tx w mode timeout (answer.Found value) fits = (fits, omega arith)
 begin_starts tx w mode timeout answer.Absent fits = (fits, omega arith)
@@ -255,7 +255,7 @@ begin_starts tx w mode timeout answer.Skipped fits = (fits, omega arith)
 begin_starts tx w mode timeout (answer.NoCache cache) fits = (fits, omega arith)
 
 -- they are no fewer
-pub answer_starts : (tx : TxId) (l : Line) (w : Walk) (c : Command) (a : Answer) → w.started ≤ 2 ^ 64 - 1 → Starts w.started (answered tx w (Some c) a).started
+pub answer_starts : (tx : TxId) (l : Line) (w : Walk) (c : Command) (a : Answer) → w.started ≤ 2 ^ 64 - 1 → Starts w.started (walk_after_answer tx w (Some c) a).started
 answer_starts tx l w (command.Begin mode timeout) a fits = begin_starts tx w mode timeout a fits
 answer_starts tx l w command.Commit a fits = (fits, omega arith)
 answer_starts tx l w command.Rollback a fits = (fits, omega arith)

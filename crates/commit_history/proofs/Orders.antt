@@ -6,7 +6,7 @@ use Rattle.std.specs.declared.cmp.Ordering.TheVariants.{Less, Equal, Greater}
 use Rattle.std.proofs.lemmas.Bool.Decides.{nat_tests}
 use Rattle.std.proofs.lemmas.Cmp.{nat_cmp_total, nat_list_cmp_total}
 use Rattle.std.proofs.lemmas.Map.Lookups.{exact_unsigned}
-use Rattle.base_words.specs.Tables.{keys_in}
+use Rattle.part_model.specs.Tables.{keys_in}
 use Rattle.hash_table.specs.SameKeys.{exact_nodes, exact_txs}
 use Rattle.ignite_types.specs.Names.{key_cmp, node_cmp, same_node, same_tx, tx_cmp}
 use Rattle.ignite_types.specs.declared.names.NodeId.{NodeId}

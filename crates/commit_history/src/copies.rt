@@ -28,7 +28,7 @@ pub fn copied(alloc: Global, walk: &Walk) -> Mem<Walk>
         block: walk.block,
         skipping: walk.skipping,
         called: walk.called,
-        glance: walk.glance,
+        near_read: walk.near_read,
         finds: table_copied(alloc, &walk.finds)?,
         near: table_copied(alloc, &walk.near)?,
         overs: walk.overs.copy(alloc)?,

@@ -3,7 +3,7 @@
 ghost use Rattle.std.specs.Prelude.{◌≡◌, [], map, IfOk};
 ghost use Rattle.tx_model.specs.History.{commits_of, records};
 ghost use Rattle.commit_history.specs.Firsts.{firsts};
-ghost use Rattle.commit_history.specs.Steps.{entry};
+ghost use Rattle.commit_history.specs.Steps.{entry_of_walks};
 
 use crate::walks::{Walks, nodes_of};
 use hash_table::HashTable;
@@ -39,7 +39,7 @@ fn entries_of(
     journal: &Journal,
     txs: &[TxId],
 ) -> Mem<List<CommitEntry>>
-    ensures { IfOk result (λ list. list ≡ map (λ tx. entry nodes.now walks.now journal.now.groups tx) txs.now) }
+    ensures { IfOk result (λ list. list ≡ map (λ tx. entry_of_walks nodes.now walks.now journal.now.groups tx) txs.now) }
 {
     let mut list = List::with_capacity(alloc, txs.len())?;
     for tx in txs {

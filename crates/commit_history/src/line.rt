@@ -1,7 +1,7 @@
 //! What is known of one session.
 
 ghost use Rattle.std.specs.Prelude.{◌≡◌};
-ghost use Rattle.commit_history.specs.Lines.{after_call, current, joined, line_after, new_line};
+ghost use Rattle.commit_history.specs.Lines.{line_after, line_after_call, new_line, tx_of_line, walk_at_line};
 
 use ignite_types::{Command, NodeId, TxId};
 use tx_model::{Walk, access_key};
@@ -33,7 +33,7 @@ impl Line {
 
     /// The transaction that it started last.
     pub fn current(&self, session: u32) -> TxId
-        ensures { result ≡ current self.now session }
+        ensures { result ≡ tx_of_line self.now session }
     {
         TxId {
             node: self.node,
@@ -44,7 +44,7 @@ impl Line {
 
     /// It calls a command: an access outside a block is a transaction of its own, unless it is skipped.
     pub fn call(&mut self, command: &Command)
-        ensures { self.new ≡ after_call self.old command.now }
+        ensures { self.new ≡ line_after_call self.old command.now }
     {
         if access_key(command).is_some() && !self.block && !self.skipping {
             self.started = self.started.saturating_add(1);
@@ -54,7 +54,7 @@ impl Line {
 
     /// Tells the walk of its transaction how it stands.
     pub fn join(&self, walk: &mut Walk)
-        ensures { walk.new ≡ joined self.now walk.old }
+        ensures { walk.new ≡ walk_at_line self.now walk.old }
     {
         walk.started = self.started;
         walk.block = self.block;

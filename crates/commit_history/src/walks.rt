@@ -43,7 +43,7 @@ pub fn nodes_of(alloc: Global, sessions: &[Session]) -> Mem<Table<u32, NodeId>>
 
 /// The first find of a key counts.
 fn find_first(walk: &mut Walk, key: &Key, found: &Found) -> Mem<()>
-    ensures { OnOk result (walk.new ≡ history.finds_first walk.old key.now (at key_cmp walk.old.finds key.now) found.now) }
+    ensures { OnOk result (walk.new ≡ history.walk_with_find walk.old key.now (at key_cmp walk.old.finds key.now) found.now) }
 {
     match walk.finds.get(key) {
         Some(_) => Ok(()),
@@ -54,7 +54,7 @@ fn find_first(walk: &mut Walk, key: &Key, found: &Found) -> Mem<()>
 impl Walks {
     /// Before the first record of a run of these sessions.
     pub fn new(alloc: Global, sessions: &[Session]) -> Mem<Walks>
-        ensures { IfOk result (λ walks. walks ≡ steps.opening sessions.now) }
+        ensures { IfOk result (λ walks. walks ≡ steps.opening_walks sessions.now) }
     {
         Ok(Walks {
             nodes: nodes_of(alloc, sessions)?,
@@ -67,7 +67,7 @@ impl Walks {
 
     /// How a session stands; nothing for a number that no session has.
     fn line_of(&self, session: u32) -> Option<Line>
-        ensures { result ≡ steps.line_of self.now session }
+        ensures { result ≡ steps.session_line_of self.now session }
     {
         match self.lines.get(&session) {
             Some(line) => Some(*line),
@@ -99,7 +99,7 @@ impl Walks {
 
     /// What the near cache of a node knows of a key.
     fn near_at(&self, node: &NodeId, key: &Key) -> Found
-        ensures { result ≡ steps.near_at self.now node.now (Some key.now) }
+        ensures { result ≡ steps.near_told_at self.now node.now (Some key.now) }
     {
         match self.near.get(node) {
             Some(known) => match known.get(key) {
@@ -111,8 +111,8 @@ impl Walks {
     }
 
     /// What the near cache of a node knows of a command's key.
-    fn glance_of(&self, node: &NodeId, command: &Command) -> Found
-        ensures { result ≡ steps.glance_of self.now node.now command.now }
+    fn near_read_of(&self, node: &NodeId, command: &Command) -> Found
+        ensures { result ≡ steps.near_read_of self.now node.now command.now }
     {
         match access_key(command) {
             Some(key) => self.near_at(node, &key),
@@ -120,12 +120,12 @@ impl Walks {
         }
     }
 
-    fn glance(&mut self, alloc: Global, tx: &TxId, command: &Command) -> Mem<()>
-        ensures { OnOk result (self.new ≡ steps.glanced self.old tx.now command.now) }
+    fn near_read(&mut self, alloc: Global, tx: &TxId, command: &Command) -> Mem<()>
+        ensures { OnOk result (self.new ≡ steps.walks_with_near_read self.old tx.now command.now) }
     {
-        let glance = self.glance_of(&tx.node, command);
+        let near_read = self.near_read_of(&tx.node, command);
         let mut walk = self.take(alloc, tx);
-        walk.glance = glance;
+        walk.near_read = near_read;
         self.keep(tx, walk)
     }
 
@@ -139,7 +139,7 @@ impl Walks {
     }
 
     fn call(&mut self, alloc: Global, session: u32, command: &Command) -> Mem<()>
-        ensures { OnOk result (self.new ≡ steps.call_on self.old session command.now (steps.line_of self.old session)) }
+        ensures { OnOk result (self.new ≡ steps.walks_after_call self.old session command.now (steps.session_line_of self.old session)) }
     {
         let Some(mut line) = self.line_of(session) else {
             return Ok(());
@@ -148,14 +148,14 @@ impl Walks {
         let tx = line.current(session);
         self.lines.set(session, line)?;
         if self.has_started(&tx) {
-            self.glance(alloc, &tx, command)
+            self.near_read(alloc, &tx, command)
         } else {
             Ok(())
         }
     }
 
     fn answer(&mut self, alloc: Global, session: u32, answer: &Answer) -> Mem<()>
-        ensures { OnOk result (self.new ≡ steps.answer_on self.old session answer.now (steps.line_of self.old session)) }
+        ensures { OnOk result (self.new ≡ steps.walks_after_answer self.old session answer.now (steps.session_line_of self.old session)) }
     {
         let Some(mut line) = self.line_of(session) else {
             return Ok(());
@@ -174,7 +174,7 @@ impl Walks {
 
     /// The command that a transaction is about, where it is its session's last one.
     fn called_of(&self, tx: &TxId) -> Option<Command>
-        ensures { result ≡ steps.called_of tx.now (steps.line_of self.now tx.now.session) }
+        ensures { result ≡ steps.open_call_of tx.now (steps.session_line_of self.now tx.now.session) }
     {
         match self.line_of(tx.session) {
             Some(line) if line.current(tx.session) == *tx => line.called,
@@ -183,23 +183,23 @@ impl Walks {
     }
 
     fn start(&mut self, alloc: Global, tx: &TxId, top: TopVer) -> Mem<()>
-        ensures { OnOk result (self.new ≡ steps.started self.old tx.now top) }
+        ensures { OnOk result (self.new ≡ steps.walks_after_start self.old tx.now top) }
     {
-        let glance = match self.called_of(tx) {
-            Some(command) => Some(self.glance_of(&tx.node, &command)),
+        let near_read = match self.called_of(tx) {
+            Some(command) => Some(self.near_read_of(&tx.node, &command)),
             None => None,
         };
         let mut walk = self.take(alloc, tx);
         walk.top = Some(top);
-        if let Some(glance) = glance {
-            walk.glance = glance;
+        if let Some(near_read) = near_read {
+            walk.near_read = near_read;
         }
         self.keep(tx, walk)
     }
 
     /// The first find of a key counts, until the transaction is decided or has a fault.
     fn find(&mut self, alloc: Global, tx: &TxId, key: &Key, found: &Found) -> Mem<()>
-        ensures { OnOk result (self.new ≡ steps.found self.old tx.now key.now found.now) }
+        ensures { OnOk result (self.new ≡ steps.walks_after_find self.old tx.now key.now found.now) }
     {
         if self.overs.contains(tx) {
             return Ok(());
@@ -211,7 +211,7 @@ impl Walks {
 
     /// Takes out what the near cache of a node was told, to be kept changed.
     fn take_near(&mut self, alloc: Global, node: &NodeId) -> HashTable<Key, Found>
-        ensures known { result ≡ steps.near_of self.old node.now }
+        ensures known { result ≡ steps.near_told_of self.old node.now }
         ensures rest { TakesNear self.old self.new node.now }
     {
         let fresh = HashTable::new(alloc);
@@ -223,7 +223,7 @@ impl Walks {
     }
 
     fn tell_near(&mut self, alloc: Global, to: &Option<NodeId>, key: &Key, found: &Found) -> Mem<()>
-        ensures { OnOk result (self.new ≡ steps.near_told self.old to.now key.now found.now) }
+        ensures { OnOk result (self.new ≡ steps.walks_after_near_update self.old to.now key.now found.now) }
     {
         let Some(node) = to else {
             return Ok(());
@@ -242,7 +242,7 @@ impl Walks {
         key: &Key,
         found: &Found,
     ) -> Mem<()>
-        ensures { OnOk result (self.new ≡ steps.near_got self.old to.now tx.now key.now found.now) }
+        ensures { OnOk result (self.new ≡ steps.walks_after_near_get self.old to.now tx.now key.now found.now) }
     {
         if found.is_some() && !self.overs.contains(tx) {
             self.tell_near(alloc, to, key, found)
@@ -252,7 +252,7 @@ impl Walks {
     }
 
     fn deliver(&mut self, alloc: Global, to: &Option<NodeId>, message: &Message) -> Mem<()>
-        ensures { OnOk result (self.new ≡ steps.delivered self.old to.now message.now) }
+        ensures { OnOk result (self.new ≡ steps.walks_after_delivery self.old to.now message.now) }
     {
         match message {
             Message::LockOk { tx, key, found } => self.find(alloc, tx, key, found),
@@ -271,7 +271,7 @@ impl Walks {
     }
 
     fn commit(&mut self, alloc: Global, tx: &TxId) -> Mem<()>
-        ensures { OnOk result (self.new ≡ steps.committed_now self.old tx.now) }
+        ensures { OnOk result (self.new ≡ steps.walks_with_commit self.old tx.now) }
     {
         let mut walk = self.take(alloc, tx);
         walk.committed = true;
@@ -279,7 +279,7 @@ impl Walks {
     }
 
     fn decide(&mut self, alloc: Global, tx: &TxId, commit: bool) -> Mem<()>
-        ensures { OnOk result (self.new ≡ steps.decided self.old tx.now commit) }
+        ensures { OnOk result (self.new ≡ steps.walks_after_decide self.old tx.now commit) }
     {
         if commit {
             self.commit(alloc, tx)?;
@@ -289,7 +289,7 @@ impl Walks {
 
     /// One record; `to` is the node that takes a message in its group.
     fn step(&mut self, alloc: Global, to: &Option<NodeId>, rec: &Rec) -> Mem<()>
-        ensures { OnOk result (self.new ≡ steps.stepped self.old to.now rec.now) }
+        ensures { OnOk result (self.new ≡ steps.walks_after_record self.old to.now rec.now) }
     {
         match rec {
             Rec::Call { session, command } => self.call(alloc, *session, command),
@@ -303,7 +303,7 @@ impl Walks {
     }
 
     fn walk_group(&mut self, alloc: Global, to: &Option<NodeId>, recs: &[Rec]) -> Mem<()>
-        ensures { OnOk result (self.new ≡ steps.walk_recs self.old to.now recs.now) }
+        ensures { OnOk result (self.new ≡ steps.walks_after_records self.old to.now recs.now) }
     {
         for rec in recs {
             self.step(alloc, to, rec)?;
@@ -313,7 +313,7 @@ impl Walks {
 
     /// All records of these groups, in their order.
     pub fn walk(&mut self, alloc: Global, groups: &[Group]) -> Mem<()>
-        ensures { OnOk result (self.new ≡ steps.walk_all self.old groups.now) }
+        ensures { OnOk result (self.new ≡ steps.walks_after_groups self.old groups.now) }
     {
         for group in groups {
             self.walk_group(alloc, &taker_of(&group.event), group.recs.as_slice())?;
@@ -332,7 +332,7 @@ impl Walks {
     }
 
     fn home_entry(&self, alloc: Global, tx: &TxId, line: &Line) -> Mem<CommitEntry>
-        ensures { IfOk result (λ entry. entry ≡ steps.home_entry self.now tx.now line.now) }
+        ensures { IfOk result (λ entry. entry ≡ steps.entry_of_line self.now tx.now line.now) }
     {
         let mut walk = self.copy_of(alloc, tx)?;
         line.join(&mut walk);
@@ -348,7 +348,7 @@ impl Walks {
         nodes: &Table<u32, NodeId>,
         tx: &TxId,
     ) -> Mem<CommitEntry>
-        ensures { IfOk result (λ entry. entry ≡ steps.entry nodes.now self.now journal.now.groups tx.now) }
+        ensures { IfOk result (λ entry. entry ≡ steps.entry_of_walks nodes.now self.now journal.now.groups tx.now) }
     {
         match nodes.get(&tx.session) {
             Some(node) if *node == tx.node => match self.line_of(tx.session) {

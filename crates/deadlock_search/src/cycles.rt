@@ -1,7 +1,7 @@
 //! The first cycle in the waits that were gathered, depth first.
 
 ghost use Rattle.std.specs.Prelude.{◌≡◌, ◌∷◌, List as SpecList, OnOk, IfOk, option_map};
-ghost use Rattle.base_words.specs.Cycles.{along, cycle_through, descends, tries};
+ghost use Rattle.part_model.specs.Cycles.{cycle_through, way_along, way_down, way_through_each};
 
 use ignite_types::{Edge, List, Mem, TxId};
 use ordered_set::Set;
@@ -32,8 +32,8 @@ fn follow(
     entered: &mut Set<TxId>,
     edge: &Edge,
 ) -> Mem<Option<List<Edge>>>
-    ensures way { IfOk result (λ way. way ≡ (along (λ seen holder. descends depth tx.now edges.now seen holder) tx.now edge.now entered.old).way) }
-    ensures entered { OnOk result (entered.new ≡ (along (λ seen holder. descends depth tx.now edges.now seen holder) tx.now edge.now entered.old).entered) }
+    ensures way { IfOk result (λ way. way ≡ (way_along (λ seen holder. way_down depth tx.now edges.now seen holder) tx.now edge.now entered.old).way) }
+    ensures entered { OnOk result (entered.new ≡ (way_along (λ seen holder. way_down depth tx.now edges.now seen holder) tx.now edge.now entered.old).entered) }
 {
     let holder = edge.wait.holder;
     if holder == *tx {
@@ -57,8 +57,8 @@ fn try_edges(
     entered: &mut Set<TxId>,
     at: &TxId,
 ) -> Mem<Option<List<Edge>>>
-    ensures way { IfOk result (λ way. way ≡ (tries (λ seen holder. descends depth tx.now edges.now seen holder) tx.now at.now entered.old edges.now).way) }
-    ensures entered { OnOk result (entered.new ≡ (tries (λ seen holder. descends depth tx.now edges.now seen holder) tx.now at.now entered.old edges.now).entered) }
+    ensures way { IfOk result (λ way. way ≡ (way_through_each (λ seen holder. way_down depth tx.now edges.now seen holder) tx.now at.now entered.old edges.now).way) }
+    ensures entered { OnOk result (entered.new ≡ (way_through_each (λ seen holder. way_down depth tx.now edges.now seen holder) tx.now at.now entered.old edges.now).entered) }
 {
     for edge in edges {
         if edge.wait.waiter == *at {
@@ -81,8 +81,8 @@ fn descend(
     entered: &mut Set<TxId>,
     at: &TxId,
 ) -> Mem<Option<List<Edge>>>
-    ensures way { IfOk result (λ way. way ≡ (descends depth tx.now edges.now entered.old at.now).way) }
-    ensures entered { OnOk result (entered.new ≡ (descends depth tx.now edges.now entered.old at.now).entered) }
+    ensures way { IfOk result (λ way. way ≡ (way_down depth tx.now edges.now entered.old at.now).way) }
+    ensures entered { OnOk result (entered.new ≡ (way_down depth tx.now edges.now entered.old at.now).entered) }
 {
     if depth == 0 {
         Ok(None)

@@ -1,7 +1,7 @@
 //! When a transaction may expire, and the next moment at which a node has to be woken.
 
 ghost use Rattle.std.specs.Prelude.{◌≡◌};
-ghost use Rattle.act_rows.specs.Searches.{is_overdue, is_reached, live_deadline, may_time_out, next_moment, sooner};
+ghost use Rattle.act_rows.specs.Searches.{is_overdue, is_reached, live_deadline, may_time_out, next_moment, sooner_moment};
 
 use ignite_types::TxId;
 use node_state::{TxEntry, TxState};
@@ -48,7 +48,7 @@ pub fn is_overdue(node: &Node, tx: &TxId) -> bool
 
 /// The least of these moments after the clock.
 pub fn sooner(now: u64, best: Option<u64>, moment: Option<u64>) -> Option<u64>
-    ensures { result ≡ sooner now best moment }
+    ensures { result ≡ sooner_moment now best moment }
 {
     match (best, moment) {
         (best, None) => best,
@@ -72,8 +72,8 @@ pub fn next_moment(node: &Node) -> Option<u64>
     for (_, entry) in node.state.txs.as_slice() {
         best = sooner(now, best, live_deadline(entry));
     }
-    for (_, desk) in node.state.desks.as_slice() {
-        best = sooner(now, best, desk.wake);
+    for (_, session_state) in node.state.session_states.as_slice() {
+        best = sooner(now, best, session_state.wake);
     }
     best
 }

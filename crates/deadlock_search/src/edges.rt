@@ -2,7 +2,7 @@
 
 ghost use Rattle.std.specs.Prelude.{◌≡◌, OnOk, IfOk};
 ghost use Rattle.std.specs.List.{list_any};
-ghost use Rattle.base_words.specs.Cycles.{same_edge, same_wait, with_edge, with_waits};
+ghost use Rattle.part_model.specs.Cycles.{same_edge, same_wait, with_edge, with_waits};
 
 use ignite_types::{Edge, List, Mem, NodeId, Wait};
 

@@ -1,7 +1,7 @@
 //! The answers of a search, and the loss of a node whose answer it awaits.
 
 ghost use Rattle.std.specs.Prelude.{◌≡◌, OnOk, IfOk, MatchOption, option_copied};
-ghost use Rattle.act_rows.specs.Searches.{answer_gathered, edges_ok_for, edges_ok_row, gathered, is_cut, search_left, search_of, searches_left};
+ghost use Rattle.act_rows.specs.Searches.{after_edges_ok, after_edges_ok_for, after_gather, after_left_at_each_search, after_left_at_searches, is_cut, search_of, search_with_answer};
 
 use crate::edges::add_waits;
 use crate::rounds::{end_round, keep_search};
@@ -26,7 +26,7 @@ fn search_of<'a>(node: &'a Node, tx: &TxId) -> Option<&'a Search>
 
 /// The waits of one answer are kept.
 fn gathered(alloc: Global, search: &Search, from: NodeId, act: u64, waits: &[Wait]) -> Mem<Search>
-    ensures { IfOk result (λ next. next ≡ gathered search.now from act waits.now) }
+    ensures { IfOk result (λ next. next ≡ search_with_answer search.now from act waits.now) }
 {
     let mut awaited = search.awaited.copy(alloc)?;
     awaited.remove(&from);
@@ -43,7 +43,7 @@ fn gathered(alloc: Global, search: &Search, from: NodeId, act: u64, waits: &[Wai
 
 /// With the last answer the round is over.
 fn go_on(node: &mut Node, tx: TxId, search: Search) -> Mem<()>
-    ensures { OnOk result (node.new ≡ answer_gathered node.old tx search) }
+    ensures { OnOk result (node.new ≡ after_gather node.old tx search) }
 {
     match search.awaited.as_slice() {
         [] => end_round(node, tx, search),
@@ -60,7 +60,7 @@ pub fn on_edges_ok(
     act: u64,
     waits: &[Wait],
 ) -> Mem<()>
-    ensures { OnOk result (node.new ≡ edges_ok_row node.old from tx round act waits.now) }
+    ensures { OnOk result (node.new ≡ after_edges_ok node.old from tx round act waits.now) }
 {
     let Some(search) = search_of(node, &tx) else {
         return Ok(());
@@ -84,7 +84,7 @@ fn is_cut(node: &Node, tx: &TxId, lost: NodeId) -> bool
 }
 
 fn cut_each(node: &mut Node, lost: NodeId, txs: &[TxId]) -> Mem<()>
-    ensures { OnOk result (node.new ≡ searches_left node.old lost txs.now) }
+    ensures { OnOk result (node.new ≡ after_left_at_each_search node.old lost txs.now) }
 {
     for tx in txs {
         if is_cut(node, tx, lost) {
@@ -96,7 +96,7 @@ fn cut_each(node: &mut Node, lost: NodeId, txs: &[TxId]) -> Mem<()>
 
 /// A search is cut by the loss of a node whose answer it awaits.
 pub fn search_saw_leave(node: &mut Node, lost: NodeId) -> Mem<()>
-    ensures { OnOk result (node.new ≡ search_left node.old lost) }
+    ensures { OnOk result (node.new ≡ after_left_at_searches node.old lost) }
 {
     let txs = txs_of(node)?;
     cut_each(node, lost, txs.as_slice())

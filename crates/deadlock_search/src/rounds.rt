@@ -1,9 +1,9 @@
 //! The rounds of a search: each asks nodes for the waits of the transactions known.
 
 ghost use Rattle.std.specs.Prelude.{◌≡◌, OnOk, IfOk};
-ghost use Rattle.act_rows.specs.Accesses.{state_of};
-ghost use Rattle.act_rows.specs.Searches.{asks, begins_search, expire_row, new_search, next_round, next_search, search_clear, searched, searching, with_named};
-ghost use Rattle.base_words.specs.Cycles.{cycle_through};
+ghost use Rattle.act_rows.specs.Accesses.{tx_state_of};
+ghost use Rattle.act_rows.specs.Searches.{after_ask, after_begin_search, after_expire, after_next_round, after_search, after_search_clear, new_search, search_of_next_round, with_named, with_search};
+ghost use Rattle.part_model.specs.Cycles.{cycle_through};
 ghost use Rattle.ignite_types.specs.Names.{tx_cmp};
 ghost use Rattle.ordered_set.specs.Members.{with_member};
 
@@ -17,7 +17,7 @@ use tx_decisions::fail;
 
 /// Edges to each of these nodes, for all transactions known.
 fn ask(node: &mut Node, tx: TxId, round: u32, known: List<TxId>, nodes: &[NodeId]) -> Mem<()>
-    ensures { OnOk result (node.new ≡ asks node.old tx round known nodes.now) }
+    ensures { OnOk result (node.new ≡ after_ask node.old tx round known nodes.now) }
 {
     let outs = outs_to(
         node.alloc,
@@ -48,7 +48,7 @@ fn new_search(alloc: Global, members: &[NodeId], tx: TxId) -> Mem<Search>
 /// The transaction is searched for.
 #[tactic(auto, using(act_rows::proofs::TableLaws::tx_put_put))]
 pub(crate) fn keep_search(node: &mut Node, tx: TxId, search: Search) -> Mem<()>
-    ensures { OnOk result (node.new ≡ searching node.old tx search) }
+    ensures { OnOk result (node.new ≡ with_search node.old tx search) }
 {
     let Some(mut entry) = node.take_entry(tx) else {
         return Ok(());
@@ -60,7 +60,7 @@ pub(crate) fn keep_search(node: &mut Node, tx: TxId, search: Search) -> Mem<()>
 
 /// The first round asks every member for the waits of the transaction.
 fn begin_search(node: &mut Node, tx: TxId) -> Mem<()>
-    ensures { OnOk result (node.new ≡ begins_search node.old tx) }
+    ensures { OnOk result (node.new ≡ after_begin_search node.old tx) }
 {
     let mut members = Set::new(node.alloc);
     add_members(&mut members, node.state.members.as_slice())?;
@@ -72,7 +72,7 @@ fn begin_search(node: &mut Node, tx: TxId) -> Mem<()>
 }
 
 fn state_of(node: &Node, tx: &TxId) -> TxState
-    ensures { result ≡ state_of node.now tx.now }
+    ensures { result ≡ tx_state_of node.now tx.now }
 {
     match node.entry(tx) {
         Some(entry) => entry.state,
@@ -82,7 +82,7 @@ fn state_of(node: &Node, tx: &TxId) -> TxState
 
 /// The deadline was reached: what waits for a lock is searched first, anything else is rolled back.
 pub fn on_expire(node: &mut Node, tx: TxId) -> Mem<()>
-    ensures { OnOk result (node.new ≡ expire_row node.old tx) }
+    ensures { OnOk result (node.new ≡ after_expire node.old tx) }
 {
     let state = state_of(node, &tx);
     node.note(Rec::Expire { tx })?;
@@ -112,7 +112,7 @@ fn with_named(alloc: Global, known: &Set<TxId>, edges: &[Edge]) -> Mem<Set<TxId>
 
 /// The search with its next round.
 fn next_search(node: &Node, search: Search, known: Set<TxId>) -> Mem<Search>
-    ensures { IfOk result (λ next. next ≡ next_search node.now search known) }
+    ensures { IfOk result (λ next. next ≡ search_of_next_round node.now search known) }
 {
     let awaited = node.live_among(search.members.as_slice())?;
     let mut next = search;
@@ -123,7 +123,7 @@ fn next_search(node: &Node, search: Search, known: Set<TxId>) -> Mem<Search>
 }
 
 fn next_round(node: &mut Node, tx: TxId, search: Search) -> Mem<()>
-    ensures { OnOk result (node.new ≡ next_round node.old tx search) }
+    ensures { OnOk result (node.new ≡ after_next_round node.old tx search) }
 {
     let round = search.round;
     let known = List::from_slice(node.alloc, search.known.as_slice())?;
@@ -134,7 +134,7 @@ fn next_round(node: &mut Node, tx: TxId, search: Search) -> Mem<()>
 
 /// Where nothing new was named, no deadlock is found.
 fn search_clear(node: &mut Node, tx: TxId, search: Search, named: Set<TxId>) -> Mem<()>
-    ensures { OnOk result (node.new ≡ search_clear node.old tx search named) }
+    ensures { OnOk result (node.new ≡ after_search_clear node.old tx search named) }
 {
     if named.len() == search.known.len() {
         let edges = List::new(node.alloc);
@@ -148,7 +148,7 @@ fn search_clear(node: &mut Node, tx: TxId, search: Search, named: Set<TxId>) -> 
 
 /// A round is over: a cycle is a deadlock, else what was named decides.
 pub(crate) fn end_round(node: &mut Node, tx: TxId, search: Search) -> Mem<()>
-    ensures { OnOk result (node.new ≡ searched node.old tx search (cycle_through tx search.edges)) }
+    ensures { OnOk result (node.new ≡ after_search node.old tx search (cycle_through tx search.edges)) }
 {
     match cycle_through(node.alloc, &tx, search.edges.as_slice())? {
         Some(edges) => {

@@ -2,7 +2,7 @@
 use Rattle.std.specs.Option.{option_copied}
 use Rattle.std.specs.Prelude.{None, Option, Result, Some, false, true, Ok, Err, ◌≡◌}
 use Rattle.std.specs.Borrow.{Bor}
-use Rattle.base_words.specs.Directory.{Directory, loss_refused}
+use Rattle.part_model.specs.Directory.{Directory, refusal_of_loss}
 use Rattle.discovery_order.specs.declared.changes.JoinFault.{JoinFault}
 use Rattle.discovery_order.specs.declared.changes.JoinFault.TheVariants as join
 use Rattle.discovery_order.specs.declared.changes.LeftFault.{LeftFault}
@@ -22,6 +22,6 @@ JoinRefused d member (Err join.NoMemory) = has node_cmp d.ever member.node ≡ f
 
 -- a loss is refused exactly so
 abbrev pub LeftRefused : Directory → NodeId → Option (Bor PartMap) → Result TopVer LeftFault → Type 0
-LeftRefused d node best (Ok top) = loss_refused d node (option_copied best) ≡ None
-LeftRefused d node best (Err (left.Refused why)) = loss_refused d node (option_copied best) ≡ Some why
-LeftRefused d node best (Err left.NoMemory) = loss_refused d node (option_copied best) ≡ None
+LeftRefused d node best (Ok top) = refusal_of_loss d node (option_copied best) ≡ None
+LeftRefused d node best (Err (left.Refused why)) = refusal_of_loss d node (option_copied best) ≡ Some why
+LeftRefused d node best (Err left.NoMemory) = refusal_of_loss d node (option_copied best) ≡ None

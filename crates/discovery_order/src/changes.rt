@@ -1,7 +1,7 @@
 //! Changes of the topology, each with the version that it makes, or why it is refused.
 
 ghost use Rattle.std.specs.Prelude.{◌≡◌, OnOk, OnErr, IfOk};
-ghost use Rattle.base_words.specs.Directory.{appended, joined};
+ghost use Rattle.part_model.specs.Directory.{directory_after_join, with_event};
 ghost use Rattle.discovery_order.specs.Changes.{JoinRefused, LeftRefused};
 ghost use Rattle.discovery_order.specs.declared.changes.JoinFault.TheVariants as join_fault;
 ghost use Rattle.discovery_order.specs.declared.changes.LeftFault.TheVariants as left_fault;
@@ -44,7 +44,7 @@ impl From<NoMemory> for LeftFault {
 impl Directory {
     /// A member joins, whose number was never in.
     pub fn join(&mut self, alloc: Global, member: Member) -> Result<TopVer, JoinFault>
-        ensures ok { OnOk result (self.new ≡ joined self.old member) }
+        ensures ok { OnOk result (self.new ≡ directory_after_join self.old member) }
         ensures version { IfOk result (λ top. top ≡ self.new.last) }
         ensures err { OnErr result (self.new ≡ self.old) }
         ensures refused { JoinRefused self.old member result }
@@ -64,7 +64,7 @@ impl Directory {
         node: NodeId,
         best: Option<&PartMap>,
     ) -> Result<TopVer, LeftFault>
-        ensures ok { OnOk result (self.new ≡ appended self.old (topo.Left node)) }
+        ensures ok { OnOk result (self.new ≡ with_event self.old (topo.Left node)) }
         ensures version { IfOk result (λ top. top ≡ self.new.last) }
         ensures err { OnErr result (self.new ≡ self.old) }
         ensures refused { LeftRefused self.old node best.entry result }
@@ -78,7 +78,7 @@ impl Directory {
 
     /// The late switch of owners.
     pub fn append_minor(&mut self, alloc: Global) -> Mem<TopVer>
-        ensures ok { OnOk result (self.new ≡ appended self.old topo.Minor) }
+        ensures ok { OnOk result (self.new ≡ with_event self.old topo.Minor) }
         ensures version { IfOk result (λ top. top ≡ self.new.last) }
         ensures err { OnErr result (self.new ≡ self.old) }
     {
@@ -88,7 +88,7 @@ impl Directory {
 
     /// A cache starts.
     pub fn append_start(&mut self, alloc: Global, cache: u32) -> Mem<TopVer>
-        ensures ok { OnOk result (self.new ≡ appended self.old (topo.Start cache)) }
+        ensures ok { OnOk result (self.new ≡ with_event self.old (topo.Start cache)) }
         ensures version { IfOk result (λ top. top ≡ self.new.last) }
         ensures err { OnErr result (self.new ≡ self.old) }
     {
@@ -98,7 +98,7 @@ impl Directory {
 
     /// A cache stops.
     pub fn append_stop(&mut self, alloc: Global, cache: u32) -> Mem<TopVer>
-        ensures ok { OnOk result (self.new ≡ appended self.old (topo.Stop cache)) }
+        ensures ok { OnOk result (self.new ≡ with_event self.old (topo.Stop cache)) }
         ensures version { IfOk result (λ top. top ≡ self.new.last) }
         ensures err { OnErr result (self.new ≡ self.old) }
     {

@@ -4,7 +4,7 @@ ghost use Rattle.std.specs.Prelude.{◌≡◌, [], OnOk, OnErr, IfOk};
 ghost use Rattle.std.specs.Option.{option_copied};
 ghost use Rattle.ignite_types.specs.Names.{node_cmp};
 ghost use Rattle.ordered_set.specs.Members.{has};
-ghost use Rattle.base_words.specs.Directory.{appended, event_at, gave_answer, is_due, joined, next_step, opening_directory, step_done, step_due, ticked};
+ghost use Rattle.part_model.specs.Directory.{at_moment, directory_after_join, event_at, is_due, next_step, opening_directory, step_due, with_answer_given, with_event, with_step_done};
 
 use crate::topology::{change_members, first_top, node_set, version_after};
 use ignite_types::{List, Mem, Member, NodeId, PlanStep, Scenario, TopVer, TopoEvent};
@@ -27,7 +27,7 @@ pub struct Directory {
 }
 
 impl Model for Directory {
-    ghost use Rattle.base_words.specs.Directory.{Directory as DirectoryValue};
+    ghost use Rattle.part_model.specs.Directory.{Directory as DirectoryValue};
 
     ghost Value = { DirectoryValue };
 
@@ -53,7 +53,7 @@ impl Directory {
 
     /// Appends a topology event.
     pub fn append(&mut self, alloc: Global, event: &TopoEvent) -> Mem<()>
-        ensures ok { OnOk result (self.new ≡ appended self.old event.now) }
+        ensures ok { OnOk result (self.new ≡ with_event self.old event.now) }
         ensures err { OnErr result (self.new ≡ self.old) }
     {
         let mut members = List::from_slice(alloc, self.members.as_slice())?;
@@ -66,7 +66,7 @@ impl Directory {
 
     /// Appends the join of a member.
     pub fn append_join(&mut self, alloc: Global, member: Member) -> Mem<()>
-        ensures ok { OnOk result (self.new ≡ joined self.old member) }
+        ensures ok { OnOk result (self.new ≡ directory_after_join self.old member) }
         ensures err { OnErr result (self.new ≡ self.old) }
     {
         let mut ever = self.ever.copy(alloc)?;
@@ -160,21 +160,21 @@ impl Directory {
 
     /// The next plan step was done or refused.
     pub fn pass_step(&mut self)
-        ensures { self.new ≡ step_done self.old }
+        ensures { self.new ≡ with_step_done self.old }
     {
         self.done = self.done.saturating_add(1);
     }
 
     /// The clock goes to this moment.
     pub fn tick(&mut self, to: u64)
-        ensures { self.new ≡ ticked self.old to }
+        ensures { self.new ≡ at_moment self.old to }
     {
         self.clock = to;
     }
 
     /// One more answer was given.
     pub fn count_answer(&mut self)
-        ensures { self.new ≡ gave_answer self.old }
+        ensures { self.new ≡ with_answer_given self.old }
     {
         self.answered = self.answered.saturating_add(1);
     }

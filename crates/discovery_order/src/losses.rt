@@ -1,8 +1,8 @@
 //! Which losses are refused.
 
 ghost use Rattle.std.specs.Prelude.{◌≡◌, option_copied};
-ghost use Rattle.base_words.specs.Directory.{first_bare, loss_refused, one_remains, remains, survives};
-ghost use Rattle.base_words.specs.NextMap.{is_member};
+ghost use Rattle.part_model.specs.Directory.{first_bare, one_remains, refusal_of_loss, remains, survives};
+ghost use Rattle.part_model.specs.NextMap.{is_member};
 
 use crate::directory::Directory;
 use ignite_types::{Member, NoLoss, NodeId, PartMap, Row};
@@ -65,7 +65,7 @@ impl Directory {
     /// Why the loss of a node is refused, `best` being the highest map installed at a survivor: it is no member, or a
     /// partition would be left without an owner.
     pub fn loss_refused(&self, node: NodeId, best: Option<&PartMap>) -> Option<NoLoss>
-        ensures { result ≡ loss_refused self.now node (option_copied best.entry) }
+        ensures { result ≡ refusal_of_loss self.now node (option_copied best.entry) }
     {
         if !is_member(self.members(), node) {
             return Some(NoLoss::NotIn);

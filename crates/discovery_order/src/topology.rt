@@ -1,7 +1,7 @@
 //! What topology events change: the version, the members and the running caches.
 
 ghost use Rattle.std.specs.Prelude.{◌≡◌, [], OnOk, IfOk};
-ghost use Rattle.base_words.specs.Directory.{first_top, members_after, next_major, next_minor, node_set, running_after, running_from, version_after, without_node};
+ghost use Rattle.part_model.specs.Directory.{first_top, members_after, next_major, next_minor, node_set, running_after, running_from, version_after, without_node};
 
 use ignite_types::{Cache, List, Mem, Member, NodeId, TopVer, TopoEvent};
 use ordered_set::Set;

@@ -1,7 +1,7 @@
 //! The count itself.
 
 ghost use Rattle.std.specs.Prelude.{◌≡◌, [], IfOk, OnErr, OnOk};
-ghost use Rattle.base_words.specs.Drain.{below, count_of, one_done, one_more};
+ghost use Rattle.part_model.specs.Drain.{count_below, count_of, with_one_done, with_one_more};
 
 use ignite_types::{Mem, TopVer};
 use ordered_table::Table;
@@ -17,7 +17,7 @@ pub struct DrainCount {
 }
 
 impl Model for DrainCount {
-    ghost use Rattle.base_words.specs.Drain.{DrainCount as Counts};
+    ghost use Rattle.part_model.specs.Drain.{DrainCount as Counts};
 
     ghost Value = { Counts };
 
@@ -46,7 +46,7 @@ impl DrainCount {
 
     /// One more piece of work is open at this version. Where there is no memory for the version's count, nothing changes.
     pub fn add(&mut self, top: TopVer) -> Mem<()>
-        ensures ok { OnOk result (self.new ≡ one_more self.old top) }
+        ensures ok { OnOk result (self.new ≡ with_one_more self.old top) }
         ensures err { OnErr result (self.new ≡ self.old) }
     {
         let count = self.count_of(&top).saturating_add(1);
@@ -56,7 +56,7 @@ impl DrainCount {
     /// One piece of work less is open at this version; the last one takes the version's count out. It takes no memory, and
     /// changes nothing where no work is open.
     pub fn done(&mut self, top: TopVer)
-        ensures { self.new ≡ one_done self.old top }
+        ensures { self.new ≡ with_one_done self.old top }
     {
         let count = self.count_of(&top);
         if count > 1 {
@@ -68,7 +68,7 @@ impl DrainCount {
 
     /// How much work is open at the versions below this one. It takes linear time in the number of versions with open work.
     pub fn below(&self, top: TopVer) -> u64
-        ensures { result ≡ below self.now top }
+        ensures { result ≡ count_below self.now top }
     {
         let mut open = 0u64;
         for (version, count) in self.counts.as_slice() {

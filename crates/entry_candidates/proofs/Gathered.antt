@@ -7,7 +7,7 @@ use Rattle.std.specs.Ordering.{match_ordering, ordering_reverse}
 use Rattle.std.specs.declared.cmp.Ordering.{Ordering}
 use Rattle.std.specs.declared.cmp.Ordering.TheVariants.{Less, Equal, Greater}
 use Rattle.std.proofs.lemmas.Cmp.{tied_back}
-use Rattle.base_words.specs.Queues.{Queues, edges_of, queue_in, stands_in, waits_in}
+use Rattle.part_model.specs.Queues.{Queues, edges_of, is_queued, queue_in, waits_in}
 use Rattle.hash_table.specs.SameKeys.{exact_keys}
 use Rattle.ignite_types.specs.Names.{key_cmp, same_tx}
 use Rattle.ignite_types.specs.declared.names.TxId.{TxId}
@@ -20,7 +20,7 @@ use Rattle.ordered_table.specs.declared.table.Table.{Table}
 use Rattle.entry_candidates.proofs.Orders.{key_total, same_or_apart, same_tx_apart, same_tx_itself, tx_or_other}
 use Rattle.entry_candidates.proofs.Reading.{each_found, flat_map_read}
 use Rattle.entry_candidates.specs.Gathering.{Marks, marked, waited_by}
-use Rattle.entry_candidates.specs.Placing.{IsIndexed, Places, place_in, table_of}
+use Rattle.entry_candidates.specs.Placing.{IsIndexed, Places, place_in_queue, table_of}
 
 -- Two tables give the same where each has all keys that give something.
 
@@ -103,12 +103,12 @@ waited_keeps : (places : Places) (marks : Marks) (txs : List TxId) (k : Key) →
 waited_keeps places marks [] k there = there
 waited_keeps places marks (tx ∷ txs) k there = waited_keeps places (marked marks (table_of places tx)) txs k (marked_keeps marks (table_of places tx) k there)
 
-waited_has : (places : Places) (marks : Marks) (txs : List TxId) (w : TxId) (k : Key) → stands_in w txs ≡ true → at key_cmp (table_of places w) k ≡ Some true → is_some (at key_cmp (waited_by places marks txs) k) ≡ true
+waited_has : (places : Places) (marks : Marks) (txs : List TxId) (w : TxId) (k : Key) → is_queued w txs ≡ true → at key_cmp (table_of places w) k ≡ Some true → is_some (at key_cmp (waited_by places marks txs) k) ≡ true
 waited_has places marks [] w k listed waits = absurd (cc)
 waited_has places marks (tx ∷ txs) w k listed waits =
     elim (tx_or_other w tx) [
       | inl is ↦ waited_keeps places (marked marks (table_of places tx)) txs k (marked_has marks (table_of places tx) k (ap (λ (x : TxId). at key_cmp (table_of places x) k) (sym is) ∙ waits))
-      | inr other ↦ waited_has places (marked marks (table_of places tx)) txs w k (ap (λ b. b || stands_in w txs) (sym (same_tx_apart w tx other)) ∙ listed) waits
+      | inr other ↦ waited_has places (marked marks (table_of places tx)) txs w k (ap (λ b. b || is_queued w txs) (sym (same_tx_apart w tx other)) ∙ listed) waits
     ]
 
 mark_ascends : (marks : Marks) (e : Key × Bool) (b : Bool) → IsAscending key_cmp marks → IsAscending key_cmp (cond b (put key_cmp marks e.0 e.1) marks)
@@ -125,10 +125,10 @@ waited_ascends places marks (tx ∷ txs) up = waited_ascends places (marked mark
 
 -- Where a key was not gathered, nobody that is listed waits.
 
-none_listed : (of waiters : List TxId) → ((w : TxId) → stands_in w waiters ≡ true → stands_in w of ≡ false) → filter (λ (w : TxId). stands_in w of) waiters ≡ []
+none_listed : (of waiters : List TxId) → ((w : TxId) → is_queued w waiters ≡ true → is_queued w of ≡ false) → filter (λ (w : TxId). is_queued w of) waiters ≡ []
 none_listed of [] none = refl
 none_listed of (w ∷ waiters) none =
-    let here = none w (ap (λ b. b || stands_in w waiters) (same_tx_itself w)) in
+    let here = none w (ap (λ b. b || is_queued w waiters) (same_tx_itself w)) in
     rw here (none_listed of waiters (λ u there. none u (ap (λ b. same_tx u w || b) there ∙ or-true (same_tx u w))))
 
 false_from : (b : Bool) → (b ≡ true → ⊥) → b ≡ false
@@ -138,9 +138,9 @@ false_from false never = refl
 no_waits_in : (queues : Queues) (places : Places) (of : List TxId) (k : Key) (queue : List TxId) → IsIndexed queues places → queue_in queues k ≡ queue → at key_cmp (waited_by places [] of) k ≡ None → waits_in k of queue ≡ []
 no_waits_in queues places of k [] indexed is none = refl
 no_waits_in queues places of k (owner ∷ waiters) indexed is none =
-    ap (map (λ (w : TxId). record { key = k; waiter = w; holder = owner })) (none_listed of waiters (λ w waits. false_from (stands_in w of) (λ listed.
-    let place : place_in (owner ∷ waiters) w ≡ Some true = rw waits in
-    let there = waited_has places [] of w k listed (indexed.tied w k ∙ ap (λ q. place_in q w) is ∙ place) in
+    ap (map (λ (w : TxId). record { key = k; waiter = w; holder = owner })) (none_listed of waiters (λ w waits. false_from (is_queued w of) (λ listed.
+    let place : place_in_queue (owner ∷ waiters) w ≡ Some true = rw waits in
+    let there = waited_has places [] of w k listed (indexed.tied w k ∙ ap (λ q. place_in_queue q w) is ∙ place) in
     let gone = ap is_some none in
     cc)))
 

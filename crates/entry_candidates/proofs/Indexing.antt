@@ -1,7 +1,7 @@
 -- The index stays that of the queues where one queue changes and the places at its key are settled.
 use Rattle.std.proofs.Common.{Bool, List, None, Option, Some, [], ap, inl, inr, refl, subst, sym, unwrap_or, ◌∙◌, ◌∷◌, ◌≡◌, ◌≢◌, ◌⊎◌}
 use Rattle.std.proofs.lemmas.Cmp.{tied_itself}
-use Rattle.base_words.specs.Queues.{Queues, queue_in, with_queue_in}
+use Rattle.part_model.specs.Queues.{Queues, queue_in, with_queue_in}
 use Rattle.hash_table.proofs.Ordered.{something_put}
 use Rattle.hash_table.specs.SameKeys.{exact_keys, exact_txs}
 use Rattle.ignite_types.specs.Names.{key_cmp, tx_cmp}
@@ -14,7 +14,7 @@ use Rattle.ordered_table.specs.Places.{IsAscending}
 use Rattle.ordered_table.specs.declared.table.Table.{Table}
 use Rattle.entry_candidates.proofs.Orders.{key_total, same_or_apart, tx_or_other, tx_total}
 use Rattle.entry_candidates.proofs.Tables as tables
-use Rattle.entry_candidates.specs.Placing.{IsIndexed, IsTidy, Places, place_in, table_of, with_place}
+use Rattle.entry_candidates.specs.Placing.{IsIndexed, IsTidy, Places, place_in_queue, table_of, with_place}
 
 -- A change of one place.
 
@@ -100,7 +100,7 @@ are_tidy queues places indexed = record { tidy = indexed.places_tidy; ascend = i
 
 indexed_after : (queues : Queues) (places after : Places) (key : Key) (queue : List TxId) → IsIndexed queues places → AreTidy after
     → ((u : TxId) (k : Key) → k ≢ key → at key_cmp (table_of after u) k ≡ at key_cmp (table_of places u) k)
-    → ((u : TxId) → at key_cmp (table_of after u) key ≡ place_in queue u)
+    → ((u : TxId) → at key_cmp (table_of after u) key ≡ place_in_queue queue u)
     → IsIndexed (with_queue_in queues key queue) after
 indexed_after queues places after key queue indexed are elsewhere here = record {
   queues_tidy = tables.tidy_list key_cmp exact_keys key_total queues key queue indexed.queues_tidy;
@@ -108,42 +108,42 @@ indexed_after queues places after key queue indexed are elsewhere here = record 
   tables_ascend = are.ascend;
   tied = λ u k.
       elim (key_or_other k key) [
-        | inl is ↦ subst (λ (x : Key). at key_cmp (table_of after u) x ≡ place_in (queue_in (with_queue_in queues key queue) x) u) (sym is) (here u ∙ ap (λ q. place_in q u) (sym (queue_there queues key queue indexed.queues_tidy)))
-        | inr other ↦ elsewhere u k other ∙ indexed.tied u k ∙ ap (λ q. place_in q u) (sym (queue_elsewhere queues key k queue indexed.queues_tidy other))
+        | inl is ↦ subst (λ (x : Key). at key_cmp (table_of after u) x ≡ place_in_queue (queue_in (with_queue_in queues key queue) x) u) (sym is) (here u ∙ ap (λ q. place_in_queue q u) (sym (queue_there queues key queue indexed.queues_tidy)))
+        | inr other ↦ elsewhere u k other ∙ indexed.tied u k ∙ ap (λ q. place_in_queue q u) (sym (queue_elsewhere queues key k queue indexed.queues_tidy other))
       ];
 }
 
 -- where the places of all but one stay
 pub indexed_one : (queues : Queues) (places : Places) (key : Key) (queue : List TxId) (tx : TxId) → IsIndexed queues places
-    → ((u : TxId) → u ≢ tx → place_in queue u ≡ place_in (queue_in queues key) u)
-    → IsIndexed (with_queue_in queues key queue) (with_place places tx key (place_in queue tx))
+    → ((u : TxId) → u ≢ tx → place_in_queue queue u ≡ place_in_queue (queue_in queues key) u)
+    → IsIndexed (with_queue_in queues key queue) (with_place places tx key (place_in_queue queue tx))
 indexed_one queues places key queue tx indexed stay =
     let are = are_tidy queues places indexed in
-    indexed_after queues places (with_place places tx key (place_in queue tx)) key queue indexed (tidy_place places tx key _ are)
+    indexed_after queues places (with_place places tx key (place_in_queue queue tx)) key queue indexed (tidy_place places tx key _ are)
     (λ u k other. place_elsewhere places tx u key k _ are other)
     (λ u.
     elim (tx_or_other u tx) [
-      | inl is ↦ subst (λ (x : TxId). at key_cmp (table_of (with_place places tx key (place_in queue tx)) x) key ≡ place_in queue x) (sym is) (place_there places tx key _ are)
+      | inl is ↦ subst (λ (x : TxId). at key_cmp (table_of (with_place places tx key (place_in_queue queue tx)) x) key ≡ place_in_queue queue x) (sym is) (place_there places tx key _ are)
       | inr other ↦ place_of_other places tx u key _ are other ∙ indexed.tied u key ∙ sym (stay u other)
     ])
 
 -- where one leaves, another takes its place, and those of all others stay
-pub indexed_two : (queues : Queues) (places : Places) (key : Key) (queue : List TxId) (tx next : TxId) → IsIndexed queues places → next ≢ tx → place_in queue tx ≡ None
-    → ((u : TxId) → u ≢ tx → u ≢ next → place_in queue u ≡ place_in (queue_in queues key) u)
-    → IsIndexed (with_queue_in queues key queue) (with_place (with_place places tx key None) next key (place_in queue next))
+pub indexed_two : (queues : Queues) (places : Places) (key : Key) (queue : List TxId) (tx next : TxId) → IsIndexed queues places → next ≢ tx → place_in_queue queue tx ≡ None
+    → ((u : TxId) → u ≢ tx → u ≢ next → place_in_queue queue u ≡ place_in_queue (queue_in queues key) u)
+    → IsIndexed (with_queue_in queues key queue) (with_place (with_place places tx key None) next key (place_in_queue queue next))
 indexed_two queues places key queue tx next indexed apart none stay =
     let are = are_tidy queues places indexed in
     let between = tidy_place places tx key None are in
     let left = with_place places tx key None in
-    let after = with_place left next key (place_in queue next) in
+    let after = with_place left next key (place_in_queue queue next) in
     indexed_after queues places after key queue indexed (tidy_place left next key _ between)
     (λ u k other. place_elsewhere left next u key k _ between other ∙ place_elsewhere places tx u key k None are other)
     (λ u.
     elim (tx_or_other u next) [
-      | inl is ↦ subst (λ (x : TxId). at key_cmp (table_of after x) key ≡ place_in queue x) (sym is) (place_there left next key _ between)
+      | inl is ↦ subst (λ (x : TxId). at key_cmp (table_of after x) key ≡ place_in_queue queue x) (sym is) (place_there left next key _ between)
       | inr other ↦ place_of_other left next u key _ between other ∙
           elim (tx_or_other u tx) [
-            | inl is ↦ subst (λ (x : TxId). at key_cmp (table_of left x) key ≡ place_in queue x) (sym is) (place_there places tx key None are ∙ sym none)
+            | inl is ↦ subst (λ (x : TxId). at key_cmp (table_of left x) key ≡ place_in_queue queue x) (sym is) (place_there places tx key None are ∙ sym none)
             | inr other_tx ↦ place_of_other places tx u key None are other_tx ∙ indexed.tied u key ∙ sym (stay u other_tx other)
           ]
     ])

@@ -8,9 +8,9 @@ use Rattle.std.specs.Ordering.{match_ordering}
 use Rattle.std.specs.declared.cmp.Ordering.{Ordering}
 use Rattle.std.specs.declared.cmp.Ordering.TheVariants.{Less, Equal, Greater}
 use Rattle.std.proofs.lemmas.Cmp.{tied_itself}
-use Rattle.base_words.specs.Queues.{Queues, queue_in, standing_in, stands_in, with_members}
-use Rattle.base_words.specs.Queues as words
-use Rattle.base_words.specs.Tables.{keys_in, keys_where}
+use Rattle.part_model.specs.Queues.{Queues, is_queued, queue_in, queued_txs, with_members}
+use Rattle.part_model.specs.Queues as words
+use Rattle.part_model.specs.Tables.{keys_in, keys_where}
 use Rattle.hash_table.proofs.Ordered.{ascending_filter, at_below_all, same_entries}
 use Rattle.hash_table.specs.SameKeys.{exact_keys, exact_txs}
 use Rattle.ignite_types.specs.Names.{key_cmp, same_tx, tx_cmp}
@@ -25,7 +25,7 @@ use Rattle.ordered_table.specs.declared.table.Table.{Table}
 use Rattle.entry_candidates.proofs.Calls.{is_placed}
 use Rattle.entry_candidates.proofs.Orders.{key_total, same_tx_apart, same_tx_itself, tx_or_other, tx_total}
 use Rattle.entry_candidates.proofs.Reading.{EachFound, each_found}
-use Rattle.entry_candidates.specs.Placing.{IsIndexed, Places, place_in, table_of}
+use Rattle.entry_candidates.specs.Placing.{IsIndexed, Places, place_in_queue, table_of}
 
 module _ {K V : Type 0} (cmp : K → K → Ordering) where
   -- the keys alone
@@ -112,16 +112,16 @@ module _ {K V : Type 0} (cmp : K → K → Ordering) (o : IsTotalOrder cmp) (tes
             ]
       ] refl
 
-stands_passes : (tx : TxId) (found : Option (List TxId)) → passes (stands_in tx) found ≡ stands_in tx (unwrap_or found [])
+stands_passes : (tx : TxId) (found : Option (List TxId)) → passes (is_queued tx) found ≡ is_queued tx (unwrap_or found [])
 stands_passes tx None = refl
 stands_passes tx (Some queue) = refl
 
-pub keys_are : (queues : Queues) (places : Places) (tx : TxId) → IsIndexed queues places → keys_in (table_of places tx) ≡ words.keys_of queues tx
+pub keys_are : (queues : Queues) (places : Places) (tx : TxId) → IsIndexed queues places → keys_in (table_of places tx) ≡ words.keys_queued_for queues tx
 keys_are queues places tx indexed =
     let up = indexed.queues_tidy.ascending in
-    let test : Key × List TxId → Bool = λ e. stands_in tx e.1 in
+    let test : Key × List TxId → Bool = λ e. is_queued tx e.1 in
     same_keys key_cmp key_total exact_keys (table_of places tx) (filter test queues) (indexed.tables_ascend tx) (ascending_filter key_cmp test queues up)
-    (λ k. ap is_some (indexed.tied tx k) ∙ is_placed (queue_in queues k) tx ∙ sym (filtered_there key_cmp key_total (stands_in tx) queues k up ∙ stands_passes tx (at key_cmp queues k)))
+    (λ k. ap is_some (indexed.tied tx k) ∙ is_placed (queue_in queues k) tx ∙ sym (filtered_there key_cmp key_total (is_queued tx) queues k up ∙ stands_passes tx (at key_cmp queues k)))
     ∙ sym (keys_filtered test queues)
 
 -- Who stands anywhere.
@@ -151,9 +151,9 @@ has_with set tx u =
       | inr other ↦ ap is_some (laws.at_put_other tx_cmp tx_total (as_table set) tx u tt (λ h. other (exact_txs u tx h))) ∙ sym (ap (λ b. has_tx set u || b) (same_tx_apart u tx other) ∙ or-false (has_tx set u))
     ])
 
-has_members : (set queue : List TxId) (u : TxId) → has_tx (with_members set queue) u ≡ (has_tx set u || stands_in u queue)
+has_members : (set queue : List TxId) (u : TxId) → has_tx (with_members set queue) u ≡ (has_tx set u || is_queued u queue)
 has_members set [] u = sym (or-false (has_tx set u))
-has_members set (tx ∷ queue) u = has_members (with_member tx_cmp set tx) queue u ∙ ap (λ b. b || stands_in u queue) (has_with set tx u) ∙ or_assoc (has_tx set u) (same_tx u tx) (stands_in u queue)
+has_members set (tx ∷ queue) u = has_members (with_member tx_cmp set tx) queue u ∙ ap (λ b. b || is_queued u queue) (has_with set tx u) ∙ or_assoc (has_tx set u) (same_tx u tx) (is_queued u queue)
 
 set_ascends : (set : List TxId) (tx : TxId) → IsAscending tx_cmp (as_table set) → IsAscending tx_cmp (as_table (with_member tx_cmp set tx))
 set_ascends set tx up = rw (table_with set tx) (ascending_put tx_cmp tx_total (as_table set) tx tt up)
@@ -166,7 +166,7 @@ abbrev standing_with : List TxId → Queues → List TxId
 standing_with set queues = fold (λ (set : List TxId) (e : Key × List TxId). with_members set e.1) set queues
 
 abbrev anywhere : TxId → Queues → Bool
-anywhere u queues = list_any (λ (e : Key × List TxId). stands_in u e.1) queues
+anywhere u queues = list_any (λ (e : Key × List TxId). is_queued u e.1) queues
 
 standing_ascends : (set : List TxId) (queues : Queues) → IsAscending tx_cmp (as_table set) → IsAscending tx_cmp (as_table (standing_with set queues))
 standing_ascends set [] up = up
@@ -174,15 +174,15 @@ standing_ascends set (e ∷ queues) up = standing_ascends (with_members set e.1)
 
 has_standing : (set : List TxId) (queues : Queues) (u : TxId) → has_tx (standing_with set queues) u ≡ (has_tx set u || anywhere u queues)
 has_standing set [] u = sym (or-false (has_tx set u))
-has_standing set (e ∷ queues) u = has_standing (with_members set e.1) queues u ∙ ap (λ b. b || anywhere u queues) (has_members set e.1 u) ∙ or_assoc (has_tx set u) (stands_in u e.1) (anywhere u queues)
+has_standing set (e ∷ queues) u = has_standing (with_members set e.1) queues u ∙ ap (λ b. b || anywhere u queues) (has_members set e.1 u) ∙ or_assoc (has_tx set u) (is_queued u e.1) (anywhere u queues)
 
-found_anywhere : (queues : Queues) (u : TxId) (key : Key) → stands_in u (queue_in queues key) ≡ true → anywhere u queues ≡ true
+found_anywhere : (queues : Queues) (u : TxId) (key : Key) → is_queued u (queue_in queues key) ≡ true → anywhere u queues ≡ true
 found_anywhere [] u key here = absurd (cc)
 found_anywhere (e ∷ queues) u key here =
-    elim (key_cmp key e.0) as (λ r. stands_in u (unwrap_or (match_ordering r None (Some e.1) (at key_cmp queues key)) []) ≡ true → (stands_in u e.1 || anywhere u queues) ≡ true) [
+    elim (key_cmp key e.0) as (λ r. is_queued u (unwrap_or (match_ordering r None (Some e.1) (at key_cmp queues key)) []) ≡ true → (is_queued u e.1 || anywhere u queues) ≡ true) [
       | Less ↦ λ h. absurd (cc)
       | Equal ↦ λ h. ap (λ b. b || anywhere u queues) h
-      | Greater ↦ λ h. ap (λ b. stands_in u e.1 || b) (found_anywhere queues u key h) ∙ or-true (stands_in u e.1)
+      | Greater ↦ λ h. ap (λ b. is_queued u e.1 || b) (found_anywhere queues u key h) ∙ or-true (is_queued u e.1)
     ] here
 
 -- one without a table stands nowhere
@@ -191,7 +191,7 @@ nowhere whole [] places u indexed found none = refl
 nowhere whole (e ∷ queues) places u indexed found none =
     let table : table_of places u ≡ [] = ap (λ t. unwrap_or t []) none in
     let queue : queue_in whole e.0 ≡ e.1 = ap (λ q. unwrap_or q []) found.0 in
-    let here : stands_in u e.1 ≡ false = sym (ap is_some (sym (ap (λ t. at key_cmp t e.0) table) ∙ indexed.tied u e.0 ∙ ap (λ q. place_in q u) queue) ∙ is_placed e.1 u) in
+    let here : is_queued u e.1 ≡ false = sym (ap is_some (sym (ap (λ t. at key_cmp t e.0) table) ∙ indexed.tied u e.0 ∙ ap (λ q. place_in_queue q u) queue) ∙ is_placed e.1 u) in
     ap (λ b. b || anywhere u queues) here ∙ nowhere whole queues places u indexed found.1 none
 
 -- one with a table stands at its first key
@@ -199,7 +199,7 @@ somewhere : (queues : Queues) (places : Places) (u : TxId) (table : Table Key Bo
 somewhere queues places u [] indexed is = absurd (indexed.places_tidy.filled u is)
 somewhere queues places u (e ∷ es) indexed is =
     let first : at key_cmp (table_of places u) e.0 ≡ Some e.1 = ap (λ t. at key_cmp (unwrap_or t []) e.0) is ∙ rw (tied_itself key_total e.0) in
-    let here : stands_in u (queue_in queues e.0) ≡ true = sym (sym (ap is_some first) ∙ ap is_some (indexed.tied u e.0) ∙ is_placed (queue_in queues e.0) u) in
+    let here : is_queued u (queue_in queues e.0) ≡ true = sym (sym (ap is_some first) ∙ ap is_some (indexed.tied u e.0) ∙ is_placed (queue_in queues e.0) u) in
     found_anywhere queues u e.0 here
 
 same_standing : (queues : Queues) (places : Places) (u : TxId) (found : Option (Table Key Bool)) → IsIndexed queues places → at tx_cmp places u ≡ found → is_some found ≡ anywhere u queues
@@ -210,8 +210,8 @@ members_of : (set : List TxId) → keys_in (as_table set) ≡ set
 members_of [] = refl
 members_of (tx ∷ set) = ap (λ r. tx ∷ r) (members_of set)
 
-pub standing_are : (queues : Queues) (places : Places) → IsIndexed queues places → keys_of places ≡ standing_in queues
+pub standing_are : (queues : Queues) (places : Places) → IsIndexed queues places → keys_of places ≡ queued_txs queues
 standing_are queues places indexed =
-    same_keys tx_cmp tx_total exact_txs places (as_table (standing_in queues)) indexed.places_tidy.ascending (standing_ascends [] queues tt)
+    same_keys tx_cmp tx_total exact_txs places (as_table (queued_txs queues)) indexed.places_tidy.ascending (standing_ascends [] queues tt)
     (λ u. same_standing queues places u (at tx_cmp places u) indexed refl ∙ sym (has_standing [] queues u))
-    ∙ members_of (standing_in queues)
+    ∙ members_of (queued_txs queues)

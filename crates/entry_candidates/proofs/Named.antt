@@ -1,6 +1,6 @@
 -- The laws of tables at the two kinds of keys, under names that a function can cite.
 use Rattle.std.proofs.Common.{Bool, IsSome, List, None, Some, [], ap, refl, sym, take, ◌+◌, ◌<◌, ◌++◌, ◌∙◌, ◌∷◌, ◌≡◌, ℕ, get_or, length}
-use Rattle.base_words.specs.Queues.{Queues, with_queue_in}
+use Rattle.part_model.specs.Queues.{Queues, with_queue_in}
 use Rattle.hash_table.specs.SameKeys.{exact_keys, exact_txs}
 use Rattle.ignite_types.specs.Names.{key_cmp, tx_cmp}
 use Rattle.ignite_types.specs.declared.names.TxId.{TxId}

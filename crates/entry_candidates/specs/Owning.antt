@@ -1,6 +1,6 @@
 -- What becomes of a queue as transactions come and go, and what the caller is told.
 use Rattle.std.specs.Prelude.{Bool, None, Option, Some, [], false, if◌then◌else◌, slice_get, ◌≡◌, ◌∷◌}
-use Rattle.base_words.specs.Queues.{Queues, enqueued_in, left_by, left_in, owner_in, queue_in, stands_in, with_queue_in}
+use Rattle.part_model.specs.Queues.{Queues, is_queued, owner_in, queue_in, queue_without, queues_with, queues_without, with_queue_in}
 use Rattle.ignite_types.specs.Names.{same_tx}
 use Rattle.ignite_types.specs.declared.list.List.{List}
 use Rattle.ignite_types.specs.declared.names.TxId.{TxId}
@@ -15,30 +15,30 @@ abbrev pub placed_behind : Option TxId → Placed
 placed_behind None = placed.Owner
 placed_behind (Some owner) = placed.Waits owner
 
-abbrev pub is_owner : TxId → Option TxId → Bool
-is_owner tx None = false
-is_owner tx (Some owner) = same_tx tx owner
+abbrev pub is_owned_by : TxId → Option TxId → Bool
+is_owned_by tx None = false
+is_owned_by tx (Some owner) = same_tx tx owner
 
 -- an owner leaves; nobody else does
-abbrev pub released : Queues → TxId → Key → Queues
-released queues tx key = if is_owner tx (owner_in queues key) then left_in queues tx key else queues
+abbrev pub queues_after_release : Queues → TxId → Key → Queues
+queues_after_release queues tx key = if is_owned_by tx (owner_in queues key) then queues_without queues tx key else queues
 
 -- who owns the key once this owner has left
 abbrev pub next_owner : Queues → TxId → Key → Option TxId
 next_owner queues tx key =
-    if is_owner tx (owner_in queues key) then slice_get (left_by tx (queue_in queues key)) 0 else None
+    if is_owned_by tx (owner_in queues key) then slice_get (queue_without tx (queue_in queues key)) 0 else None
 
-abbrev pub waiters_of : List TxId → List TxId
-waiters_of [] = []
-waiters_of (owner ∷ waiters) = waiters
+abbrev pub waiters_in : List TxId → List TxId
+waiters_in [] = []
+waiters_in (owner ∷ waiters) = waiters
 
 -- the transaction stands behind the key's owner
 abbrev pub waits_at : Queues → TxId → Key → Bool
-waits_at queues tx key = stands_in tx (waiters_of (queue_in queues key))
+waits_at queues tx key = is_queued tx (waiters_in (queue_in queues key))
 
 abbrev pub without_waiter : TxId → List TxId → List TxId
 without_waiter tx [] = []
-without_waiter tx (owner ∷ waiters) = owner ∷ left_by tx waiters
+without_waiter tx (owner ∷ waiters) = owner ∷ queue_without tx waiters
 
 abbrev pub without_waiter_in : Queues → TxId → Key → Queues
 without_waiter_in queues tx key = with_queue_in queues key (without_waiter tx (queue_in queues key))
@@ -47,7 +47,7 @@ without_waiter_in queues tx key = with_queue_in queues key (without_waiter tx (q
 
 abbrev pub enqueued_each : Queues → TxId → List Key → Queues
 enqueued_each queues tx [] = queues
-enqueued_each queues tx (key ∷ keys) = enqueued_each (enqueued_in queues tx key) tx keys
+enqueued_each queues tx (key ∷ keys) = enqueued_each (queues_with queues tx key) tx keys
 
 -- another owner is named exactly where one of the keys has one
 abbrev pub Explains : OwnFault → Option (Key × TxId) → Type 0

@@ -1,6 +1,6 @@
 -- Where a transaction stands: for each transaction the keys in whose queues it is found, and whether behind the owner.
 use Rattle.std.specs.Prelude.{Bool, None, Option, Some, [], false, if◌then◌else◌, true, unwrap_or, ◌≡◌, ◌≢◌, ◌∷◌}
-use Rattle.base_words.specs.Queues.{Queues, queue_in, stands_in}
+use Rattle.part_model.specs.Queues.{Queues, is_queued, queue_in}
 use Rattle.ignite_types.specs.Names.{key_cmp, same_tx, tx_cmp}
 use Rattle.ignite_types.specs.declared.list.List.{List}
 use Rattle.ignite_types.specs.declared.names.TxId.{TxId}
@@ -11,9 +11,9 @@ use Rattle.ordered_table.specs.declared.table.Table.{Table}
 use Rattle.std.specs.declared.cmp.Ordering.{Ordering}
 
 -- a place in a queue: whether it is one behind the owner; a transaction that owns the key and waits for it once more waits
-abbrev pub place_in : List TxId → TxId → Option Bool
-place_in [] tx = None
-place_in (owner ∷ waiters) tx = if stands_in tx waiters then Some true else (if same_tx tx owner then Some false else None)
+abbrev pub place_in_queue : List TxId → TxId → Option Bool
+place_in_queue [] tx = None
+place_in_queue (owner ∷ waiters) tx = if is_queued tx waiters then Some true else (if same_tx tx owner then Some false else None)
 
 abbrev pub Places : Type 0
 Places = List (TxId × Table Key Bool)
@@ -40,4 +40,4 @@ pub record IsIndexed (queues : Queues) (places : Places) : Type 0 where
   pub queues_tidy : IsTidy key_cmp queues
   pub places_tidy : IsTidy tx_cmp places
   pub tables_ascend : (tx : TxId) → IsAscending key_cmp (table_of places tx)
-  pub tied : (tx : TxId) (key : Key) → at key_cmp (table_of places tx) key ≡ place_in (queue_in queues key) tx
+  pub tied : (tx : TxId) (key : Key) → at key_cmp (table_of places tx) key ≡ place_in_queue (queue_in queues key) tx

@@ -1,6 +1,6 @@
 -- What it means that a queue or a table was taken out to be changed: an empty one stands in its place.
 use Rattle.std.specs.Prelude.{Bool, None, Some, [], ◌≡◌, ◌∷◌, ◌++◌}
-use Rattle.base_words.specs.Queues.{Queues}
+use Rattle.part_model.specs.Queues.{Queues}
 use Rattle.ignite_types.specs.Names.{key_cmp, tx_cmp}
 use Rattle.ignite_types.specs.declared.list.List.{List}
 use Rattle.ignite_types.specs.declared.names.TxId.{TxId}

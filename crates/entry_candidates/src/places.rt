@@ -2,7 +2,7 @@
 
 ghost use Rattle.std.specs.Prelude.{◌≡◌, [], IfOk, IsSome, MatchOption, OnErr, OnOk, Some};
 ghost use Rattle.std.specs.Map.{keys_of};
-ghost use Rattle.base_words.specs.Tables.{keys_in};
+ghost use Rattle.part_model.specs.Tables.{keys_in};
 ghost use Rattle.ignite_types.specs.Names.{key_cmp, tx_cmp};
 ghost use Rattle.ordered_table.specs.Entries.{at};
 ghost use Rattle.ordered_table.specs.Places.{IsAscending};

@@ -1,12 +1,12 @@
 //! The queues alone, by key.
 
 ghost use Rattle.std.specs.Prelude.{◌≡◌, ◌++◌, [], IfOk, IsSome, MatchOption, OnErr, OnOk, take, drop};
-ghost use Rattle.base_words.specs.Queues.{Queues, enqueued_in, left_by, left_in, lists_of, other_owner, owner_in, queue_in, stands_in, waits_behind, waits_in, with_queue_in};
+ghost use Rattle.part_model.specs.Queues.{Queues, is_queued, lists_of, other_owner, owner_in, queue_in, queue_without, queues_with, queues_without, waits_behind, waits_in, with_queue_in};
 ghost use Rattle.ignite_types.specs.Names.{key_cmp};
 ghost use Rattle.ordered_table.specs.Entries.{at};
 ghost use Rattle.std.specs.List.{flat_map};
-ghost use Rattle.entry_candidates.specs.Owning.{is_owner, waiters_of, without_last_in, without_waiter_in};
-ghost use Rattle.entry_candidates.specs.Placing.{place_in};
+ghost use Rattle.entry_candidates.specs.Owning.{is_owned_by, waiters_in, without_last_in, without_waiter_in};
+ghost use Rattle.entry_candidates.specs.Placing.{place_in_queue};
 ghost use Rattle.entry_candidates.specs.Taking.{IsLast, TakesNoQueue, TakesQueue};
 
 use hash_table::HashTable;
@@ -23,7 +23,7 @@ pub struct QueueTable {
 }
 
 impl Model for QueueTable {
-    ghost use Rattle.base_words.specs.Queues.{Queues};
+    ghost use Rattle.part_model.specs.Queues.{Queues};
 
     ghost Value = { Queues };
 
@@ -32,14 +32,14 @@ impl Model for QueueTable {
 
 /// Whether the transaction stands in the queue.
 fn stands_in(tx: &TxId, queue: &[TxId]) -> bool
-    ensures { result ≡ stands_in tx.now queue.now }
+    ensures { result ≡ is_queued tx.now queue.now }
 {
     queue.iter().any(|other| *tx == *other)
 }
 
 /// Takes the transaction out of the queue behind the first `from`; it takes no memory.
 fn leave_behind(queue: &mut List<TxId>, from: usize, tx: TxId)
-    ensures { queue.new ≡ take from queue.old ++ left_by tx (drop from queue.old) }
+    ensures { queue.new ≡ take from queue.old ++ queue_without tx (drop from queue.old) }
 {
     let mut place = queue.len();
     while place > from {
@@ -110,7 +110,7 @@ impl QueueTable {
 
     /// Whether the transaction owns the key.
     pub fn is_owner(&self, tx: &TxId, key: &Key) -> bool
-        ensures { result ≡ is_owner tx.now (owner_in self.now key.now) }
+        ensures { result ≡ is_owned_by tx.now (owner_in self.now key.now) }
     {
         match self.owner(key) {
             Some(owner) => *tx == owner,
@@ -130,7 +130,7 @@ impl QueueTable {
 
     /// Where the transaction stands in the key's queue: whether behind the owner.
     pub fn place(&self, tx: &TxId, key: &Key) -> Option<bool>
-        ensures { result ≡ place_in (queue_in self.now key.now) tx.now }
+        ensures { result ≡ place_in_queue (queue_in self.now key.now) tx.now }
     {
         match self.queue(key) {
             [] => None,
@@ -148,7 +148,7 @@ impl QueueTable {
 
     /// Whether the transaction stands behind the key's owner.
     pub fn waits(&self, tx: &TxId, key: &Key) -> bool
-        ensures { result ≡ stands_in tx.now (waiters_of (queue_in self.now key.now)) }
+        ensures { result ≡ is_queued tx.now (waiters_in (queue_in self.now key.now)) }
     {
         match self.queue(key) {
             [] => false,
@@ -185,7 +185,7 @@ impl QueueTable {
     /// The transaction stands at the end of the key's queue.
     #[tactic(auto, using(crate::proofs::Named::key_put_put, crate::proofs::Named::key_put_there, crate::proofs::Named::key_put_back, crate::proofs::Named::queue_put))]
     pub fn push(&mut self, key: &Key, tx: TxId) -> Mem<()>
-        ensures ok { OnOk result (self.new ≡ enqueued_in self.old tx key.now) }
+        ensures ok { OnOk result (self.new ≡ queues_with self.old tx key.now) }
         ensures err { OnErr result (self.new ≡ self.old) }
     {
         match self.take(key) {
@@ -221,7 +221,7 @@ impl QueueTable {
     /// Takes the transaction out of the key's queue.
     #[tactic(auto, using(crate::proofs::Named::key_put_there, crate::proofs::Named::queue_back, crate::proofs::Named::key_absent))]
     pub fn leave(&mut self, tx: TxId, key: &Key)
-        ensures { self.new ≡ left_in self.old tx key.now }
+        ensures { self.new ≡ queues_without self.old tx key.now }
     {
         if let Some(mut queue) = self.take(key) {
             leave_behind(&mut queue, 0, tx);

@@ -1,8 +1,8 @@
 //! The queues with their index.
 
 ghost use Rattle.std.specs.Prelude.{◌≡◌, [], IfOk, IfErr, None, OnErr, OnOk};
-ghost use Rattle.base_words.specs.Queues.{edges_of, enqueued_in, first_blocked, keys_of, lists_of, owner_in, queue_in, standing_in};
-ghost use Rattle.entry_candidates.specs.Owning.{Explains, enqueued_each, next_owner, placed_behind, released, taken_back, waits_at, without_last_in, without_waiter_in};
+ghost use Rattle.part_model.specs.Queues.{edges_of, first_blocked, keys_queued_for, lists_of, owner_in, queue_in, queued_txs, queues_with};
+ghost use Rattle.entry_candidates.specs.Owning.{Explains, enqueued_each, next_owner, placed_behind, queues_after_release, taken_back, waits_at, without_last_in, without_waiter_in};
 
 use crate::answers::{OwnFault, Placed};
 use crate::places::Places;
@@ -20,7 +20,7 @@ pub struct Queues {
 }
 
 impl Model for Queues {
-    ghost use Rattle.base_words.specs.Queues.{Queues as QueuesValue};
+    ghost use Rattle.part_model.specs.Queues.{Queues as QueuesValue};
     ghost use Rattle.entry_candidates.specs.Placing.{IsIndexed};
 
     ghost Value = { QueuesValue };
@@ -55,7 +55,7 @@ impl Queues {
     /// on average and, for the index, logarithmic time in the number of keys at which it stands. Where memory is wanting
     /// nothing changes.
     pub fn enqueue(&mut self, key: Key, tx: TxId) -> Mem<Placed>
-        ensures queues { OnOk result (self.new ≡ enqueued_in self.old tx key) }
+        ensures queues { OnOk result (self.new ≡ queues_with self.old tx key) }
         ensures placed { IfOk result (λ placed. placed ≡ placed_behind (owner_in self.old key)) }
         ensures err { OnErr result (self.new ≡ self.old) }
     {
@@ -143,7 +143,7 @@ impl Queues {
     /// The owner of the key leaves, and the one that has waited longest owns it then, which is answered. Of one that does
     /// not own the key nothing changes. It takes linear time in the queue, and no memory.
     pub fn release(&mut self, tx: TxId, key: &Key) -> Option<TxId>
-        ensures queues { self.new ≡ released self.old tx key.now }
+        ensures queues { self.new ≡ queues_after_release self.old tx key.now }
         ensures next { result ≡ next_owner self.old tx key.now }
     {
         if !self.queues.is_owner(&tx, key) {
@@ -187,14 +187,14 @@ impl Queues {
 
     /// Each transaction that stands in some queue, once, ascending: one pass over the index and one sort.
     pub fn standing(&self) -> Mem<List<TxId>>
-        ensures { IfOk result (λ txs. txs ≡ standing_in self.now) }
+        ensures { IfOk result (λ txs. txs ≡ queued_txs self.now) }
     {
         self.places.txs()
     }
 
     /// The keys in whose queues the transaction stands, in the keys' order: linear time in their number.
     pub fn keys_of(&self, tx: TxId) -> Mem<List<Key>>
-        ensures { IfOk result (λ keys. keys ≡ keys_of self.now tx) }
+        ensures { IfOk result (λ keys. keys ≡ keys_queued_for self.now tx) }
     {
         self.places.keys(&tx)
     }

@@ -1,7 +1,7 @@
 -- What a source and a sink over memory answer, and what they are afterwards.
 use Rattle.std.specs.Prelude.{ℕ, ◌-◌, Bool, ◌||◌, ◌&&◌, nat_lt, ◌==◌, if◌then◌else◌, min, List, ◌++◌, length, take, drop, Result, Ok, Err}
 use Rattle.host_io.specs.declared.failed.Failed.{Failed}
-use Rattle.host_io.specs.Plan.{Plan, fails_next, called, faulted}
+use Rattle.host_io.specs.Plan.{Plan, fails_next, faulted, plan_after_call}
 
 -- a source: the bytes that are left, and its calls of `take`
 pub record Supply : Type 0 where
@@ -17,8 +17,8 @@ take_answer s room = if fails_next s.plan then Err (record {}) else Ok (taken_co
 
 abbrev pub after_take : Supply → ℕ → Supply
 after_take s room = if fails_next s.plan
-    then record s { plan = faulted (called s.plan) }
-    else record s { left = drop (taken_count s room) s.left; plan = called s.plan }
+    then record s { plan = faulted (plan_after_call s.plan) }
+    else record s { left = drop (taken_count s room) s.left; plan = plan_after_call s.plan }
 
 -- a sink: the bytes that it holds, how many it has room for in all, and its calls of `put`
 pub record Store : Type 0 where
@@ -39,5 +39,5 @@ put_answer s len = if put_fails s len then Err (record {}) else Ok (put_count s 
 
 abbrev pub after_put : Store → List ℕ → Store
 after_put s bytes = if put_fails s (length bytes)
-    then record s { plan = faulted (called s.plan) }
-    else record s { held = s.held ++ take (put_count s (length bytes)) bytes; plan = called s.plan }
+    then record s { plan = faulted (plan_after_call s.plan) }
+    else record s { held = s.held ++ take (put_count s (length bytes)) bytes; plan = plan_after_call s.plan }

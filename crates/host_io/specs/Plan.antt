@@ -18,8 +18,8 @@ abbrev pub fails_next : Plan → Bool
 fails_next p = nat_lt p.made last_count && list_any (λ n. n == p.made + 1) p.fails
 
 -- one more call was made
-abbrev pub called : Plan → Plan
-called p = record p { made = next_count p.made }
+abbrev pub plan_after_call : Plan → Plan
+plan_after_call p = record p { made = next_count p.made }
 
 -- one more fault was counted
 abbrev pub faulted : Plan → Plan

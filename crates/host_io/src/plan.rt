@@ -2,7 +2,7 @@
 
 ghost use Rattle.std.specs.Prelude.{◌≡◌, ◌≤◌};
 ghost use Rattle.host_io.specs.Faults.{Faulted};
-ghost use Rattle.host_io.specs.Plan.{fresh_plan, fails_next, called, faulted};
+ghost use Rattle.host_io.specs.Plan.{fails_next, faulted, fresh_plan, plan_after_call};
 
 use std::marker::Model;
 
@@ -37,7 +37,7 @@ impl CallPlan {
     /// Counts a call, and answers whether it is one that fails.
     pub(crate) fn begin(&mut self) -> bool
         ensures answer { result ≡ fails_next self.old }
-        ensures after { self.new ≡ called self.old }
+        ensures after { self.new ≡ plan_after_call self.old }
     {
         if self.made == u64::MAX {
             return false;

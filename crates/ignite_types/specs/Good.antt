@@ -85,8 +85,8 @@ joining _ = None
 abbrev pub members : Scenario → List Member
 members s = s.nodes ++ filter_map (λ planned. joining planned.step) s.plan
 
-abbrev pub same_node : Member → Member → Bool
-same_node a b = a.node.0 == b.node.0
+abbrev pub same_member_node : Member → Member → Bool
+same_member_node a b = a.node.0 == b.node.0
 
 abbrev pub has_member : List Member → NodeId → Bool
 has_member all node = list_any (λ member. member.node.0 == node.0) all
@@ -94,7 +94,7 @@ has_member all node = list_any (λ member. member.node.0 == node.0) all
 -- numbers from 1 to 99, each once, at most 16 of them over the run; a server has a line
 abbrev pub good_nodes : Scenario → Bool
 good_nodes s =
-    list_all (λ member. is_within 1 99 member.node.0) (members s) && are_distinct same_node (members s)
+    list_all (λ member. is_within 1 99 member.node.0) (members s) && are_distinct same_member_node (members s)
     && nat_le (length (members s)) 16 && list_any (λ member. member.server) s.nodes
 
 abbrev pub no_moment_falls : List PlanStep → Bool
@@ -102,9 +102,9 @@ no_moment_falls [] = true
 no_moment_falls (planned ∷ []) = true
 no_moment_falls (planned ∷ next ∷ more) = nat_le planned.moment next.moment && no_moment_falls (next ∷ more)
 
-abbrev pub starts : ℕ → Step → Bool
-starts n (Start cache) = cache == n
-starts n _ = false
+abbrev pub starts_cache : ℕ → Step → Bool
+starts_cache n (Start cache) = cache == n
+starts_cache n _ = false
 
 abbrev pub stops : ℕ → Step → Bool
 stops n (Stop cache) = cache == n
@@ -113,7 +113,7 @@ stops n _ = false
 -- a cache may be stopped that has a cache line or was started in the steps before, once, but never cache 0
 abbrev pub can_stop : List Cache → List Step → ℕ → Bool
 can_stop caches before n =
-    not (n == 0) && (list_any has_cache_line (option_to_list (slice_get caches n)) || list_any (starts n) before) && not (list_any (stops n) before)
+    not (n == 0) && (list_any has_cache_line (option_to_list (slice_get caches n)) || list_any (starts_cache n) before) && not (list_any (stops n) before)
 
 -- a step names nodes that have a line or join, and stops what may be stopped
 abbrev pub good_step : List Cache → List Member → List Step → Step → Bool
@@ -229,13 +229,13 @@ object_of (Next key) = Some (key, Sequence)
 object_of (Offer key value) = Some (key, Queue)
 object_of (Poll key) = Some (key, Queue)
 
-abbrev pub agrees : Key × ObjectKind → Key × ObjectKind → Bool
-agrees a b = not ((a.0.cache == b.0.cache) && bytes_eq a.0.text b.0.text) || same_kind a.1 b.1
+abbrev pub agree_in_kind : Key × ObjectKind → Key × ObjectKind → Bool
+agree_in_kind a b = not ((a.0.cache == b.0.cache) && bytes_eq a.0.text b.0.text) || same_kind a.1 b.1
 
 -- each object has one kind
 abbrev pub good_kinds : List (Key × ObjectKind) → Bool
 good_kinds [] = true
-good_kinds (object ∷ more) = list_all (agrees object) more && good_kinds more
+good_kinds (object ∷ more) = list_all (agree_in_kind object) more && good_kinds more
 
 abbrev pub same_session_name : Session → Session → Bool
 same_session_name a b = bytes_eq a.name b.name

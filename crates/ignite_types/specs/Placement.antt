@@ -31,12 +31,12 @@ abbrev pub parts_at : List ℕ → ℕ → ℕ
 parts_at parts cache = unwrap_or (slice_get parts cache) 0
 
 -- the place of a hash among so many partitions
-abbrev pub place_in : ℕ → ℕ → ℕ
-place_in hash parts = if parts == 0 then 0 else hash % parts
+abbrev pub place_of_hash : ℕ → ℕ → ℕ
+place_of_hash hash parts = if parts == 0 then 0 else hash % parts
 
 -- the key's partition, `parts` being the number of partitions of each cache
 abbrev pub part_of : List ℕ → Key → ℕ
-part_of parts key = capped (first_part parts key.cache) (place_in (key_hash key.text) (parts_at parts key.cache))
+part_of parts key = capped (first_part parts key.cache) (place_of_hash (key_hash key.text) (parts_at parts key.cache))
 
 abbrev pub row_of : PartMap → Key → Option Row
 row_of map key = slice_get map.rows (part_of map.parts key)

@@ -10,7 +10,7 @@ use crate::text::{Key, Value};
 /// What a store has at a key: a value with its version, or nothing.
 pub type Found = Option<(Value, CacheVersion)>;
 
-/// An entry with its version; without a value it is the mark of a removal.
+/// An entry with its version; without a value it is the tombstone of a removal.
 #[derive(Clone, Copy, Debug, PartialEq, Eq)]
 pub struct Stored {
     pub key: Key,

@@ -2,7 +2,7 @@
 
 ghost use Rattle.std.specs.Prelude.{◌≡◌};
 ghost use Rattle.std.specs.Option.{option_copied};
-ghost use Rattle.ignite_types.specs.Placement.{capped_sum, first_owner, first_part, part_of, parts_at, place_in, primary_of, row_of};
+ghost use Rattle.ignite_types.specs.Placement.{capped_sum, first_owner, first_part, part_of, parts_at, place_of_hash, primary_of, row_of};
 
 use crate::list::List;
 use crate::names::{NodeId, TopVer};
@@ -62,7 +62,7 @@ fn capped_sum(numbers: &[u32]) -> u32
 
 /// The place of a hash among so many partitions; 0 where there is none.
 fn place_in(hash: u32, parts: u32) -> u32
-    ensures { result ≡ place_in hash parts }
+    ensures { result ≡ place_of_hash hash parts }
 {
     if parts == 0 { 0 } else { hash % parts }
 }

@@ -2,7 +2,7 @@
 use Rattle.std.specs.List.{list_all, list_any}
 use Rattle.std.specs.Option.{option_and_then}
 use Rattle.std.specs.Prelude.{Bool, None, Option, Some, nat_eq, not, true, ℕ, ◌&&◌, ◌||◌}
-use Rattle.base_words.specs.Orders.{is_node}
+use Rattle.part_model.specs.Orders.{is_node}
 use Rattle.ignite_types.specs.Names.{same_key}
 use Rattle.ignite_types.specs.Placement.{part_of}
 use Rattle.ignite_types.specs.declared.answer.Answer.{Answer}

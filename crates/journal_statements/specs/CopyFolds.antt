@@ -1,9 +1,9 @@
 -- What each node keeps, as its records tell it, and that it is the serial map wherever no commit is in work.
 use Rattle.std.specs.Prelude.{Bool, None, Option, Some, [], false, filter, if◌then◌else◌, is_some, map, ◌&&◌, ◌∷◌}
 use Rattle.act_rows.specs.Steps.{is_mover_in, is_owner_in}
-use Rattle.base_words.specs.Copies.{Copy, applied_to, supplied}
-use Rattle.base_words.specs.NextMap.{is_member}
-use Rattle.base_words.specs.declared.copies.Entry.{Entry}
+use Rattle.part_model.specs.Copies.{Copy, copy_after_supply, copy_after_write}
+use Rattle.part_model.specs.NextMap.{is_member}
+use Rattle.part_model.specs.declared.copies.Entry.{Entry}
 use Rattle.ignite_types.specs.Names.{same_top}
 use Rattle.ignite_types.specs.Placement.{row_of}
 use Rattle.ignite_types.specs.declared.journal.Rec.{Rec}
@@ -30,8 +30,8 @@ row_in (Some m) key = row_of m key
 abbrev pub owns : NodeId → Kept → Key → Bool
 owns me s key = is_owner_in me (row_in s.map key)
 
-abbrev pub moves : NodeId → Kept → Key → Bool
-moves me s key = is_mover_in me (row_in s.map key)
+abbrev pub is_mover_of : NodeId → Kept → Key → Bool
+is_mover_of me s key = is_mover_in me (row_in s.map key)
 
 -- a map empties the copies of which it does not make the node an owner; it moved the others before, if at all, and needs no marks
 abbrev pub keeps_owned : NodeId → PartMap → Copy → Copy
@@ -44,9 +44,9 @@ is_map_of top (Some m) = same_top m.top top
 -- an apply of a write, a supply under the installed map, and an installed map change the store
 abbrev pub kept_after : NodeId → Kept → Rec → Kept
 kept_after me s (note.Apply tx top primary key new ver) =
-    record s { copy = applied_to s.copy (record { key = key; value = new; ver = ver }) (moves me s key) }
+    record s { copy = copy_after_write s.copy (record { key = key; value = new; ver = ver }) (is_mover_of me s key) }
 kept_after me s (note.Deliver from (msg.Supply top part entries last)) =
-    if is_map_of top s.map then record s { copy = supplied s.copy entries } else s
+    if is_map_of top s.map then record s { copy = copy_after_supply s.copy entries } else s
 kept_after me s (note.Install m) = record { map = Some m; copy = keeps_owned me m s.copy }
 kept_after me s r = s
 

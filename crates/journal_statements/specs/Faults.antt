@@ -4,8 +4,8 @@ use Rattle.std.specs.Option.{option_and_then}
 use Rattle.std.specs.Prelude.{Bool, None, Option, Some, [], false, if◌then◌else◌, not, option_to_list, true, ◌&&◌, ◌++◌, ◌||◌, ◌∷◌}
 use Rattle.act_rows.specs.Accesses.{access_key}
 use Rattle.act_rows.specs.Stores.{version_of}
-use Rattle.base_words.specs.Copies.{Found, absent_version, found_in}
-use Rattle.base_words.specs.Orders.{is_node}
+use Rattle.part_model.specs.Copies.{Found, absent_version, found_in}
+use Rattle.part_model.specs.Orders.{is_node}
 use Rattle.ignite_types.specs.Names.{key_cmp, same_tx}
 use Rattle.ignite_types.specs.Placement.{primary_of}
 use Rattle.ignite_types.specs.declared.answer.Fail.{Fail}
@@ -26,7 +26,7 @@ use Rattle.journal_statements.specs.SameMessages.{same_cache_version}
 use Rattle.journal_statements.specs.SearchRecords.{is_clear, search_awaits, search_by}
 use Rattle.journal_statements.specs.Timeouts.{is_timed_out, keys_done, map_for, was_waiting}
 use Rattle.journal_statements.specs.Topologies.{topology_events}
-use Rattle.journal_statements.specs.Waits.{deadlock, holds_after}
+use Rattle.journal_statements.specs.Waits.{holds_after, is_true_deadlock}
 use Rattle.journal_statements.specs.Walks.{each_with_tx}
 use Rattle.tx_model.specs.declared.walk.Walk.{Walk}
 use Rattle.ignite_types.specs.declared.answer.Fail.TheVariants as fail
@@ -85,7 +85,7 @@ edges_reported tx r = []
 
 abbrev pub has_true_report : Journal → TxId → List Noted → Bool
 has_true_report j tx before =
-    list_any (deadlock j tx) (flat_map (λ (n : Noted). edges_reported tx n.rec) before)
+    list_any (is_true_deadlock j tx) (flat_map (λ (n : Noted). edges_reported tx n.rec) before)
 
 -- The faults.
 

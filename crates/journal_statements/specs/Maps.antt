@@ -2,8 +2,8 @@
 use Rattle.std.specs.List.{flat_map, list_all, list_any}
 use Rattle.std.specs.Prelude.{Bool, None, Option, Some, [], drop, false, filter, if◌then◌else◌, is_some, length, map, nat_eq, not, take, true, ℕ, ◌&&◌, ◌+◌, ◌∷◌}
 use Rattle.act_rows.specs.Exchange.{all_sent}
-use Rattle.base_words.specs.Directory.{oldest_member, running_from}
-use Rattle.base_words.specs.NextMap.{next_map}
+use Rattle.part_model.specs.Directory.{oldest_member, running_from}
+use Rattle.part_model.specs.NextMap.{next_map}
 use Rattle.ignite_types.specs.Names.{same_top}
 use Rattle.ignite_types.specs.Placement.{first_owner}
 use Rattle.ignite_types.specs.declared.journal.Journal.{Journal}

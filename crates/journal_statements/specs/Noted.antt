@@ -3,7 +3,7 @@ use Rattle.std.specs.List.{find, flat_map, list_all, list_any}
 use Rattle.std.specs.Option.{option_and_then}
 use Rattle.std.specs.Ordering.{nat_cmp}
 use Rattle.std.specs.Prelude.{Bool, None, Option, Some, [], false, if◌then◌else◌, map, slice_get, true, ℕ, ◌&&◌, ◌++◌, ◌||◌, ◌∷◌}
-use Rattle.base_words.specs.Orders.{is_node}
+use Rattle.part_model.specs.Orders.{is_node}
 use Rattle.ignite_types.specs.Names.{same_key, same_node, same_top, same_tx}
 use Rattle.ignite_types.specs.Placement.{holders, row_of}
 use Rattle.ignite_types.specs.declared.journal.Event.{Event}
@@ -20,7 +20,7 @@ use Rattle.ignite_types.specs.declared.scenario.Scenario.{Scenario}
 use Rattle.ignite_types.specs.declared.scenario.Step.{Step}
 use Rattle.ignite_types.specs.declared.text.Key.{Key}
 use Rattle.ordered_table.specs.Entries.{at}
-use Rattle.tx_model.specs.Opening.{homes_from, opening_map_of}
+use Rattle.tx_model.specs.Opening.{opening_map_of, session_nodes_from}
 use Rattle.ignite_types.specs.declared.journal.Event.TheVariants as event
 use Rattle.ignite_types.specs.declared.journal.Rec.TheVariants as note
 use Rattle.ignite_types.specs.declared.scenario.Step.TheVariants as step
@@ -35,16 +35,16 @@ Homes = List (ℕ × NodeId)
 
 -- the node that acts in an event
 abbrev pub actor : Homes → Event → Option NodeId
-actor homes (event.Answer session) = at nat_cmp homes session
-actor homes (event.Act id from) = Some id
-actor homes (event.Send id) = Some id
-actor homes (event.See id) = Some id
-actor homes (event.Expire tx) = Some tx.node
-actor homes (event.Minor id) = Some id
-actor homes (event.Call session) = at nat_cmp homes session
-actor homes event.Plan = None
-actor homes event.Tick = None
-actor homes (event.Memory id) = Some id
+actor session_nodes (event.Answer session) = at nat_cmp session_nodes session
+actor session_nodes (event.Act id from) = Some id
+actor session_nodes (event.Send id) = Some id
+actor session_nodes (event.See id) = Some id
+actor session_nodes (event.Expire tx) = Some tx.node
+actor session_nodes (event.Minor id) = Some id
+actor session_nodes (event.Call session) = at nat_cmp session_nodes session
+actor session_nodes event.Plan = None
+actor session_nodes event.Tick = None
+actor session_nodes (event.Memory id) = Some id
 
 abbrev pub joiner_at : Step → Option NodeId
 joiner_at (step.Join member) = Some member.node
@@ -69,12 +69,12 @@ noted_for scenario who event.Plan recs = noted_in_plan scenario recs
 noted_for scenario who e recs = noted_by who recs
 
 abbrev pub noted_in : Scenario → Homes → Group → List Noted
-noted_in scenario homes g = noted_for scenario (actor homes g.event) g.event g.recs
+noted_in scenario session_nodes g = noted_for scenario (actor session_nodes g.event) g.event g.recs
 
 -- all records in their order
 abbrev pub noted : Scenario → List Group → List Noted
-noted scenario groups = let homes = homes_from 1 [] scenario.sessions in
-    flat_map (λ (g : Group). noted_in scenario homes g) groups
+noted scenario groups = let session_nodes = session_nodes_from 1 [] scenario.sessions in
+    flat_map (λ (g : Group). noted_in scenario session_nodes g) groups
 
 abbrev pub rec_of : NodeId → Noted → List Rec
 rec_of id n = if is_node id n.node then n.rec ∷ [] else []
@@ -97,13 +97,13 @@ maps_installed scenario recs = opening_map_of scenario ∷ flat_map (λ (n : Not
 abbrev pub map_of_version : List PartMap → TopVer → Option PartMap
 map_of_version maps top = find (λ (m : PartMap). same_top m.top top) maps
 
-abbrev pub start_in : TxId → Rec → List TopVer
-start_in tx (note.Start u top) = if same_tx u tx then top ∷ [] else []
-start_in tx r = []
+abbrev pub start_noted : TxId → Rec → List TopVer
+start_noted tx (note.Start u top) = if same_tx u tx then top ∷ [] else []
+start_noted tx r = []
 
 -- the version of a transaction
 abbrev pub version_of_tx : List Noted → TxId → Option TopVer
-version_of_tx recs tx = slice_get (flat_map (λ (n : Noted). start_in tx n.rec) recs) 0
+version_of_tx recs tx = slice_get (flat_map (λ (n : Noted). start_noted tx n.rec) recs) 0
 
 abbrev pub holders_of_row : Option Row → List NodeId
 holders_of_row None = []

@@ -1,8 +1,8 @@
 -- Which plan steps are refused: the loss of a node that is not in, and one that would leave a partition without an owner.
 use Rattle.std.specs.List.{flat_map}
 use Rattle.std.specs.Prelude.{Bool, None, Option, Some, [], false, filter, if◌then◌else◌, nat_eq, not, option_to_list, slice_get, true, ◌&&◌, ◌++◌, ◌∷◌}
-use Rattle.base_words.specs.Directory.{leaves_partition}
-use Rattle.base_words.specs.NextMap.{is_member, newer}
+use Rattle.part_model.specs.Directory.{leaves_partition}
+use Rattle.part_model.specs.NextMap.{is_member, newer_map}
 use Rattle.ignite_types.specs.Names.{same_node}
 use Rattle.ignite_types.specs.declared.journal.Journal.{Journal}
 use Rattle.ignite_types.specs.declared.journal.NoLoss.{NoLoss}
@@ -29,7 +29,7 @@ maps_at scenario before id = option_to_list (map_if (is_member scenario.nodes id
 
 abbrev pub highest : Option PartMap → List PartMap → Option PartMap
 highest best [] = best
-highest best (m ∷ ms) = highest (newer best (Some m)) ms
+highest best (m ∷ ms) = highest (newer_map best (Some m)) ms
 
 abbrev pub survives_loss : List Noted → NodeId → NodeId → Bool
 survives_loss before gone id = not (same_node id gone) && not (is_lost before id)

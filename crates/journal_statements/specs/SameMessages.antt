@@ -1,9 +1,9 @@
 -- When two messages are the same: field by field.
 use Rattle.std.specs.Cmp.Lexicographic.{pointwise}
 use Rattle.std.specs.Prelude.{Bool, None, Option, Some, false, if◌then◌else◌, nat_eq, not, true, ℕ, ◌&&◌}
-use Rattle.base_words.specs.Copies.{Found}
-use Rattle.base_words.specs.Cycles.{same_wait}
-use Rattle.base_words.specs.Orders.{same_share}
+use Rattle.part_model.specs.Copies.{Found}
+use Rattle.part_model.specs.Cycles.{same_wait}
+use Rattle.part_model.specs.Orders.{same_share}
 use Rattle.ignite_types.specs.Names.{same_key, same_node, same_top, same_tx}
 use Rattle.ignite_types.specs.declared.answer.Fail.{Fail}
 use Rattle.ignite_types.specs.declared.list.List.{List}

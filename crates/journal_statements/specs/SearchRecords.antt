@@ -3,10 +3,10 @@ use Rattle.std.specs.Cmp.Lexicographic.{pointwise}
 use Rattle.std.specs.List.{list_all, list_any}
 use Rattle.std.specs.Option.{option_map}
 use Rattle.std.specs.Prelude.{Bool, None, Option, Some, [], false, filter, if◌then◌else◌, is_none, length, nat_eq, not, take, ℕ, ◌&&◌, ◌+◌, ◌∷◌}
-use Rattle.act_rows.specs.Searches.{gathered, new_search, with_named}
-use Rattle.base_words.specs.Cycles.{cycle_through}
-use Rattle.base_words.specs.Directory.{node_set}
-use Rattle.base_words.specs.NextMap.{has_node}
+use Rattle.act_rows.specs.Searches.{new_search, search_with_answer, with_named}
+use Rattle.part_model.specs.Cycles.{cycle_through}
+use Rattle.part_model.specs.Directory.{node_set}
+use Rattle.part_model.specs.NextMap.{has_node}
 use Rattle.ignite_types.specs.Names.{node_cmp, same_node, same_tx}
 use Rattle.ignite_types.specs.Placement.{capped}
 use Rattle.ignite_types.specs.declared.journal.Rec.{Rec}
@@ -53,7 +53,7 @@ next_if_all events read tx x = if nat_eq (length x.awaited) 0
 -- an answer of the round in work is kept
 abbrev pub search_after : List TopoEvent → ℕ → TxId → NodeId → ℕ → ℕ → List Wait → Search → Search
 search_after events read tx from round act waits x = if nat_eq x.round round && has node_cmp x.awaited from
-    then next_if_all events read tx (gathered x from act waits)
+    then next_if_all events read tx (search_with_answer x from act waits)
     else x
 
 abbrev pub sought_after : Scenario → List TopoEvent → TxId → Sought → Rec → Sought

@@ -2,9 +2,9 @@
 use Rattle.std.specs.Cmp.Lexicographic.{pointwise}
 use Rattle.std.specs.List.{flat_map, list_all, list_any}
 use Rattle.std.specs.Prelude.{Bool, None, Option, Some, [], false, filter, if◌then◌else◌, length, map, nat_eq, not, option_to_list, true, ℕ, ◌&&◌, ◌++◌, ◌||◌, ◌∷◌}
-use Rattle.base_words.specs.Copies.{Copy, is_mark}
-use Rattle.base_words.specs.Orders.{is_node}
-use Rattle.base_words.specs.declared.copies.Entry.{Entry}
+use Rattle.part_model.specs.Copies.{Copy, is_tombstone}
+use Rattle.part_model.specs.Orders.{is_node}
+use Rattle.part_model.specs.declared.copies.Entry.{Entry}
 use Rattle.ignite_types.specs.Names.{key_cmp, same_key}
 use Rattle.ignite_types.specs.Placement.{part_of}
 use Rattle.ignite_types.specs.declared.journal.End.{End}
@@ -20,10 +20,10 @@ use Rattle.ignite_types.specs.declared.scenario.Scenario.{Scenario}
 use Rattle.ignite_types.specs.declared.text.Key.{Key}
 use Rattle.ordered_table.specs.Entries.{at}
 use Rattle.journal_statements.specs.CopyFolds.{Kept, empty_store, kept_after, owns}
-use Rattle.tx_model.specs.History.{Map, committed_in, footprint, written}
+use Rattle.tx_model.specs.History.{Map, committed_in, footprint, map_with_writes}
 use Rattle.journal_statements.specs.LinkRecords.{any_link_keeps}
 use Rattle.journal_statements.specs.Noted.{Homes, Noted, is_committed_before, is_lost, maps_installed, noted, noted_in}
-use Rattle.tx_model.specs.Opening.{homes_from, ids_of}
+use Rattle.tx_model.specs.Opening.{ids_of, session_nodes_from}
 use Rattle.journal_statements.specs.SameMessages.{same_cache_version, same_text}
 use Rattle.journal_statements.specs.Versions.{write_applied}
 use Rattle.tx_model.specs.declared.history.CommitEntry.{CommitEntry}
@@ -46,7 +46,7 @@ abbrev pub store_after : Option NodeId → Rec → NodeId × Kept → NodeId × 
 store_after who r store = if is_node store.0 who then (store.0, kept_after store.0 store.1 r) else store
 
 abbrev pub with_commit : SoFar → CommitEntry → SoFar
-with_commit so entry = record so { left = written so.left entry.writes; unsettled = so.unsettled ++ entry ∷ [] }
+with_commit so entry = record so { left = map_with_writes so.left entry.writes; unsettled = so.unsettled ++ entry ∷ [] }
 
 -- the first commit decision of a transaction counts
 abbrev pub commit_after : Journal → SoFar → Option TxId → SoFar
@@ -96,7 +96,7 @@ is_version_at e (Some other) = same_cache_version e.1.ver other.ver
 -- where two nodes own a partition their values have the same versions
 abbrev pub same_versions : (Key → Bool) → Copy → Copy → Bool
 same_versions looked a b =
-    list_all (λ (e : Key × Entry). is_mark e || not (looked e.0) || is_version_at e (at key_cmp b e.0)) a
+    list_all (λ (e : Key × Entry). is_tombstone e || not (looked e.0) || is_version_at e (at key_cmp b e.0)) a
 
 -- After each group.
 
@@ -124,11 +124,11 @@ abbrev pub settled_at_end : Journal → SoFar → Bool
 settled_at_end j so = not (is_full_end j.end) || any_link_keeps j.scenario so.recs || nat_eq (length so.unsettled) 0
 
 abbrev pub copies_from : Journal → Homes → List PartMap → List ℕ → SoFar → List Group → Bool
-copies_from j homes maps parts so [] = settled_at_end j so
-copies_from j homes maps parts so (g ∷ gs) =
-    let now = without_settled maps (after_noted j so (noted_in j.scenario homes g)) in
-    copies_after parts now && copies_from j homes maps parts now gs
+copies_from j session_nodes maps parts so [] = settled_at_end j so
+copies_from j session_nodes maps parts so (g ∷ gs) =
+    let now = without_settled maps (after_noted j so (noted_in j.scenario session_nodes g)) in
+    copies_after parts now && copies_from j session_nodes maps parts now gs
 
 abbrev pub copies : Journal → Bool
-copies j = copies_from j (homes_from 1 [] j.scenario.sessions) (maps_installed j.scenario (noted j.scenario j.groups))
+copies j = copies_from j (session_nodes_from 1 [] j.scenario.sessions) (maps_installed j.scenario (noted j.scenario j.groups))
     (map (λ (c : Cache). c.parts) j.scenario.caches) (at_opening j.scenario) j.groups

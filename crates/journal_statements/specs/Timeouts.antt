@@ -4,8 +4,8 @@ use Rattle.std.specs.Prelude.{Bool, None, Option, Some, [], false, if◌then◌e
 use Rattle.act_rows.specs.Accesses.{access_key, most_keys}
 use Rattle.act_rows.specs.Commands.{deadline_at}
 use Rattle.act_rows.specs.Searches.{is_reached}
-use Rattle.base_words.specs.Orders.{raised}
-use Rattle.base_words.specs.Tables.{keys_in}
+use Rattle.part_model.specs.Orders.{next_count}
+use Rattle.part_model.specs.Tables.{keys_in}
 use Rattle.ignite_types.specs.Names.{key_cmp}
 use Rattle.ignite_types.specs.Placement.{primary_of}
 use Rattle.ignite_types.specs.declared.journal.Rec.{Rec}
@@ -20,7 +20,7 @@ use Rattle.tx_model.specs.History.{fresh_walk, is_called}
 use Rattle.journal_statements.specs.Noted.{Noted, map_of_version}
 use Rattle.journal_statements.specs.Versions.{is_decided}
 use Rattle.journal_statements.specs.Waits.{is_expire_of}
-use Rattle.journal_statements.specs.Walks.{walk_of, walk_on}
+use Rattle.journal_statements.specs.Walks.{walk_of_records, walk_on}
 use Rattle.tx_model.specs.declared.walk.Walk.{Walk}
 use Rattle.ignite_types.specs.declared.scenario.Command.TheVariants as command
 use Rattle.ignite_types.specs.declared.scenario.Mode.TheVariants as mode
@@ -46,7 +46,7 @@ clock_over now (n ∷ ns) = clock_over (clock_after now n.rec) ns
 -- a begin that is called where no block is open begins the transaction with the next number
 abbrev pub terms_after : TxId → ℕ → Walk → Terms → Rec → Terms
 terms_after tx now w t (note.Call session (command.Begin mode timeout)) =
-    if is_called tx session && not w.block && nat_eq (raised w.started) tx.number
+    if is_called tx session && not w.block && nat_eq (next_count w.started) tx.number
     then record { mode = mode; deadline = deadline_at now timeout }
     else t
 terms_after tx now w t r = t
@@ -107,7 +107,7 @@ is_waiting maps mode.Pessimistic w = awaits_lock_of maps w (option_and_then acce
 
 abbrev pub waits_before : List PartMap → TxId → Option (List Noted) → Bool
 waits_before maps tx None = false
-waits_before maps tx (Some before) = is_waiting maps (terms_of tx before).mode (walk_of tx before)
+waits_before maps tx (Some before) = is_waiting maps (terms_of tx before).mode (walk_of_records tx before)
 
 -- the transaction was in state Waiting just before its expiry
 abbrev pub was_waiting : List PartMap → TxId → List Noted → Bool

@@ -2,8 +2,8 @@
 -- committed.
 use Rattle.std.specs.Cmp.Lexicographic.{pointwise}
 use Rattle.std.specs.Prelude.{Bool, Err, None, Ok, Option, Result, Some, false, if◌then◌else◌, nat_eq, not, true, ℕ, ◌&&◌, ◌||◌}
-use Rattle.act_rows.specs.Accesses.{answer_of}
-use Rattle.base_words.specs.Numbers.{added}
+use Rattle.act_rows.specs.Accesses.{answer_of_value}
+use Rattle.part_model.specs.Numbers.{sum_with_value}
 use Rattle.ignite_types.specs.declared.answer.Answer.{Answer}
 use Rattle.ignite_types.specs.declared.journal.Journal.{Journal}
 use Rattle.ignite_types.specs.declared.list.List.{List}
@@ -22,8 +22,8 @@ sum_answer (Err why) = why
 
 -- the answer of an access by the value before it
 abbrev pub access_answer : Walk → Command → Answer
-access_answer w (command.Get key) = answer_of (known_value w key)
-access_answer w (command.Add key amount) = sum_answer (added (known_value w key) amount)
+access_answer w (command.Get key) = answer_of_value (known_value w key)
+access_answer w (command.Add key amount) = sum_answer (sum_with_value (known_value w key) amount)
 access_answer w c = answer.Done
 
 -- of answers by which an access is done
@@ -71,5 +71,5 @@ told_of_call recs tx before w None a = true
 told_of_call recs tx before w (Some c) a = access_fits w c a && closing_fits (is_committed_before recs tx) w (closing w c a)
 
 -- each answered access answers what the footprint's values say, and each closing answer what was decided
-abbrev pub told : Journal → Bool
-told j = each_answer (told_of_call (noted j.scenario j.groups)) j
+abbrev pub answers_told : Journal → Bool
+answers_told j = each_answer (told_of_call (noted j.scenario j.groups)) j

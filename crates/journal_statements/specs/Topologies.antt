@@ -1,7 +1,7 @@
 -- The topology events of a journal, the versions that they make, and what a node has seen of them.
 use Rattle.std.specs.List.{find, flat_map}
 use Rattle.std.specs.Prelude.{None, Option, Some, [], slice_get, take, ℕ, ◌+◌, ◌∷◌}
-use Rattle.base_words.specs.Directory.{first_top, members_after, running_after, running_from, version_after}
+use Rattle.part_model.specs.Directory.{first_top, members_after, running_after, running_from, version_after}
 use Rattle.ignite_types.specs.Names.{same_top}
 use Rattle.ignite_types.specs.declared.journal.Event.{Event}
 use Rattle.ignite_types.specs.declared.journal.Group.{Group}
@@ -90,9 +90,9 @@ read_from read (r ∷ rs) = read_from (read_after read r) rs
 abbrev pub seen_events : List TopoEvent → List Rec → List TopoEvent
 seen_events events recs = take (read_from 0 recs) events
 
-abbrev pub left_in : TopoEvent → List NodeId
-left_in (topo.Left id) = id ∷ []
-left_in e = []
+abbrev pub left_by_event : TopoEvent → List NodeId
+left_by_event (topo.Left id) = id ∷ []
+left_by_event e = []
 
 abbrev pub left_among : List TopoEvent → List NodeId
-left_among events = flat_map left_in events
+left_among events = flat_map left_by_event events

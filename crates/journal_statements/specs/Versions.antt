@@ -1,9 +1,9 @@
 -- Each transaction has one topology version, and no version opens before all older transactions have ended.
 use Rattle.std.specs.List.{flat_map, list_all, list_any}
 use Rattle.std.specs.Prelude.{Bool, None, Option, Some, [], false, is_none, is_some, not, true, ℕ, ◌&&◌, ◌||◌, ◌∷◌}
-use Rattle.base_words.specs.Directory.{first_top}
-use Rattle.base_words.specs.NextMap.{is_member}
-use Rattle.base_words.specs.Orders.{is_lower_top, is_node}
+use Rattle.part_model.specs.Directory.{first_top}
+use Rattle.part_model.specs.NextMap.{is_member}
+use Rattle.part_model.specs.Orders.{is_lower_top, is_node}
 use Rattle.ignite_types.specs.Names.{same_top, same_tx}
 use Rattle.ignite_types.specs.declared.journal.Journal.{Journal}
 use Rattle.ignite_types.specs.declared.journal.Rec.{Rec}
@@ -57,8 +57,8 @@ start_entries (note.Start tx top) = (tx, top) ∷ []
 start_entries r = []
 
 -- the transactions that have started, with their versions
-abbrev pub started : List Noted → List (TxId × TopVer)
-started recs = flat_map (λ (n : Noted). start_entries n.rec) recs
+abbrev pub started_txs : List Noted → List (TxId × TopVer)
+started_txs recs = flat_map (λ (n : Noted). start_entries n.rec) recs
 
 abbrev pub is_decide_in : TxId → Rec → Bool
 is_decide_in tx (note.Decide u commit) = same_tx u tx
@@ -99,7 +99,7 @@ is_not_older_tx before None = true
 is_not_older_tx before (Some top) = is_not_older before top
 
 abbrev pub drained_at : Journal → List PartMap → List Noted → Rec → Bool
-drained_at j maps before (note.Opened top) = list_any (same_top top) (opened_before before) || list_all (older_ended j maps before top) (started before)
+drained_at j maps before (note.Opened top) = list_any (same_top top) (opened_before before) || list_all (older_ended j maps before top) (started_txs before)
 drained_at j maps before (note.Start tx top) = is_not_older before top
 drained_at j maps before (note.Grant tx top key) = is_not_older before top
 drained_at j maps before (note.Apply tx top primary key new ver) = is_not_older before top

@@ -1,8 +1,8 @@
 -- Waits that stand, and deadlock reports.
 use Rattle.std.specs.List.{list_all, list_any}
 use Rattle.std.specs.Prelude.{Bool, Option, Some, [], false, filter, if◌then◌else◌, map, nat_eq, not, slice_get, take, true, ℕ, ◌&&◌, ◌++◌, ◌||◌, ◌∷◌}
-use Rattle.base_words.specs.Cycles.{same_wait}
-use Rattle.base_words.specs.Orders.{is_node}
+use Rattle.part_model.specs.Cycles.{same_wait}
+use Rattle.part_model.specs.Orders.{is_node}
 use Rattle.ignite_types.specs.Names.{same_key, same_node, same_tx}
 use Rattle.ignite_types.specs.declared.journal.Group.{Group}
 use Rattle.ignite_types.specs.declared.journal.Journal.{Journal}
@@ -17,7 +17,7 @@ use Rattle.ignite_types.specs.declared.scenario.Scenario.{Scenario}
 use Rattle.ignite_types.specs.declared.text.Key.{Key}
 use Rattle.tx_model.specs.History.{records}
 use Rattle.journal_statements.specs.Noted.{Homes, Noted, actor, each_record, is_lost, joiner_in, noted, recs_of}
-use Rattle.tx_model.specs.Opening.{homes_from}
+use Rattle.tx_model.specs.Opening.{session_nodes_from}
 use Rattle.ignite_types.specs.declared.message.Message.TheVariants as msg
 use Rattle.ignite_types.specs.declared.journal.Rec.TheVariants as note
 
@@ -29,16 +29,16 @@ is_join_group node plan (note.Planned place refused ∷ rs) = is_join_of node (s
 is_join_group node plan recs = false
 
 abbrev pub is_act_of : NodeId → Homes → List PlanStep → Group → Bool
-is_act_of node homes plan g = is_node node (actor homes g.event) || is_join_group node plan g.recs
+is_act_of node session_nodes plan g = is_node node (actor session_nodes g.event) || is_join_group node plan g.recs
 
 -- the groups of a node's acts, in their order
 abbrev pub acts_of : NodeId → Homes → List PlanStep → List Group → List Group
-acts_of node homes plan groups = filter (λ (g : Group). is_act_of node homes plan g) groups
+acts_of node session_nodes plan groups = filter (λ (g : Group). is_act_of node session_nodes plan g) groups
 
 -- what a node noted up to its act with this number, from 1
 abbrev pub acts_up_to : NodeId → ℕ → Scenario → List Group → List Rec
 acts_up_to node act scenario groups =
-    records (take act (acts_of node (homes_from 1 [] scenario.sessions) scenario.plan groups))
+    records (take act (acts_of node (session_nodes_from 1 [] scenario.sessions) scenario.plan groups))
 
 -- whether the transaction holds the key after these records of one node
 abbrev pub holds_after : TxId → Key → Bool → List Rec → Bool
@@ -56,16 +56,16 @@ waits_after tx key waits (note.Drop u k ∷ rs) = waits_after tx key (waits && n
 waits_after tx key waits (r ∷ rs) = waits_after tx key waits rs
 
 -- the wait stands after these records of a node
-abbrev pub stands_by : List Rec → Wait → Bool
-stands_by recs w = holds_after w.holder w.key false recs && waits_after w.waiter w.key false recs
+abbrev pub has_stood_by : List Rec → Wait → Bool
+has_stood_by recs w = holds_after w.holder w.key false recs && waits_after w.waiter w.key false recs
 
 -- the wait stands at the node after its act with this number
-abbrev pub stands : Journal → NodeId → ℕ → Wait → Bool
-stands j node act w = stands_by (acts_up_to node act j.scenario j.groups) w
+abbrev pub has_stood : Journal → NodeId → ℕ → Wait → Bool
+has_stood j node act w = has_stood_by (acts_up_to node act j.scenario j.groups) w
 
 -- the wait stands at the node behind these records of a journal: the node is not lost there
-abbrev pub stands_behind : List Noted → NodeId → Wait → Bool
-stands_behind recs node w = not (is_lost recs node) && stands_by (recs_of node recs) w
+abbrev pub is_queued_behind : List Noted → NodeId → Wait → Bool
+is_queued_behind recs node w = not (is_lost recs node) && has_stood_by (recs_of node recs) w
 
 -- One holder.
 
@@ -102,8 +102,8 @@ abbrev pub all_differ : List TxId → Bool
 all_differ [] = true
 all_differ (t ∷ ts) = not (list_any (same_tx t) ts) && all_differ ts
 
-abbrev pub waiters_of : List Edge → List TxId
-waiters_of edges = map (λ (e : Edge). e.wait.waiter) edges
+abbrev pub waiters_of_edges : List Edge → List TxId
+waiters_of_edges edges = map (λ (e : Edge). e.wait.waiter) edges
 
 abbrev pub is_expire_of : TxId → Rec → Bool
 is_expire_of tx (note.Expire u) = same_tx u tx
@@ -115,23 +115,23 @@ from_expire tx [] = []
 from_expire tx (r ∷ rs) = if is_expire_of tx r then r ∷ rs else from_expire tx rs
 
 -- an answer of the transaction's search brings the edge
-abbrev pub brings_edge : TxId → Edge → Rec → Bool
-brings_edge tx e (note.Deliver from (msg.EdgesOk u round act waits)) =
+abbrev pub is_brought_edge : TxId → Edge → Rec → Bool
+is_brought_edge tx e (note.Deliver from (msg.EdgesOk u round act waits)) =
     same_tx u tx && same_node from e.node && nat_eq act e.act && list_any (same_wait e.wait) waits
-brings_edge tx e r = false
+is_brought_edge tx e r = false
 
 -- the edge was brought to the starter, behind the expiry
 abbrev pub is_gathered : Journal → TxId → Edge → Bool
-is_gathered j tx e = list_any (brings_edge tx e) (from_expire tx (recs_of tx.node (noted j.scenario j.groups)))
+is_gathered j tx e = list_any (is_brought_edge tx e) (from_expire tx (recs_of tx.node (noted j.scenario j.groups)))
 
 -- a true report: a circle of waits through the transaction, each of which stands at its node and act and was brought by the search
-abbrev pub deadlock : Journal → TxId → List Edge → Bool
-deadlock j tx edges = begins_with tx edges && is_chain tx edges && all_differ (waiters_of edges)
-    && list_all (λ (e : Edge). stands j e.node e.act e.wait && is_gathered j tx e) edges
+abbrev pub is_true_deadlock : Journal → TxId → List Edge → Bool
+is_true_deadlock j tx edges = begins_with tx edges && is_chain tx edges && all_differ (waiters_of_edges edges)
+    && list_all (λ (e : Edge). has_stood j e.node e.act e.wait && is_gathered j tx e) edges
 
 abbrev pub report_fits : Journal → Rec → Bool
 report_fits j (note.Searched tx []) = true
-report_fits j (note.Searched tx (e ∷ es)) = deadlock j tx (e ∷ es)
+report_fits j (note.Searched tx (e ∷ es)) = is_true_deadlock j tx (e ∷ es)
 report_fits j r = true
 
 -- each report is true of the journal up to its group

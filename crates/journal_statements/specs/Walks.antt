@@ -10,9 +10,9 @@ use Rattle.ignite_types.specs.declared.list.List.{List}
 use Rattle.ignite_types.specs.declared.names.NodeId.{NodeId}
 use Rattle.ignite_types.specs.declared.names.TxId.{TxId}
 use Rattle.ignite_types.specs.declared.scenario.Command.{Command}
-use Rattle.tx_model.specs.History.{fresh_walk, is_called, walk, walked}
+use Rattle.tx_model.specs.History.{fresh_walk, is_called, walk_after_groups, walk_after_record}
 use Rattle.journal_statements.specs.Noted.{Noted, noted}
-use Rattle.tx_model.specs.Opening.{homes_from}
+use Rattle.tx_model.specs.Opening.{session_nodes_from}
 use Rattle.tx_model.specs.declared.walk.Walk.{Walk}
 use Rattle.ignite_types.specs.declared.journal.Rec.TheVariants as note
 
@@ -24,7 +24,7 @@ txs_from home session number (suc more) =
 
 -- how many transactions a session has started
 abbrev pub started_in : List Group → TxId → ℕ
-started_in groups tx = (walk tx fresh_walk groups).started
+started_in groups tx = (walk_after_groups tx fresh_walk groups).started
 
 -- a session's transactions; number 0 stands for the time before the first one
 abbrev pub txs_of_session : List Group → ℕ × NodeId → List TxId
@@ -32,19 +32,19 @@ txs_of_session groups home =
     txs_from home.1 home.0 0 (started_in groups (record { node = home.1; session = home.0; number = 0 }) + 1)
 
 abbrev pub txs_of_journal : Journal → List TxId
-txs_of_journal j = flat_map (txs_of_session j.groups) (homes_from 1 [] j.scenario.sessions)
+txs_of_journal j = flat_map (txs_of_session j.groups) (session_nodes_from 1 [] j.scenario.sessions)
 
 -- one record of the walk, which names the node that noted it
 abbrev pub walk_on : TxId → Walk → Noted → Walk
-walk_on tx w n = walked tx n.node w n.rec
+walk_on tx w n = walk_after_record tx n.node w n.rec
 
 abbrev pub walk_over : TxId → Walk → List Noted → Walk
 walk_over tx w [] = w
 walk_over tx w (n ∷ ns) = walk_over tx (walk_on tx w n) ns
 
 -- the walk of the transaction over these records
-abbrev pub walk_of : TxId → List Noted → Walk
-walk_of tx recs = walk_over tx fresh_walk recs
+abbrev pub walk_of_records : TxId → List Noted → Walk
+walk_of_records tx recs = walk_over tx fresh_walk recs
 
 abbrev pub Look : Type 0
 Look = List Noted → Walk → Rec → Bool

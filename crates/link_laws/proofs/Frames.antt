@@ -3,10 +3,10 @@ use Rattle.std.proofs.Common.{◌≡◌, ◌++◌, ◌&&◌, List, [], ◌∷◌
 use Rattle.std.specs.List.{list_all}
 use Rattle.std.specs.Option.{option_and_then}
 use Rattle.std.specs.Prelude.{slice_get, slice_set}
-use Rattle.act_frames.proofs.Extending.{append_none}
-use Rattle.base_words.specs.Directory.{Directory}
-use Rattle.base_words.specs.Links.{Inbox, Link}
-use Rattle.base_words.specs.NextMap.{is_member}
+use Rattle.frame_laws.proofs.Extending.{append_none}
+use Rattle.part_model.specs.Directory.{Directory}
+use Rattle.part_model.specs.Links.{Inbox, Link}
+use Rattle.part_model.specs.NextMap.{is_member}
 use Rattle.ignite_types.specs.Names.{same_node}
 use Rattle.ignite_types.specs.declared.message.Message.{Message}
 use Rattle.ignite_types.specs.declared.names.NodeId.{NodeId}
@@ -15,7 +15,7 @@ use Rattle.ignite_types.specs.declared.scenario.PlanStep.{PlanStep}
 use Rattle.ignite_types.specs.declared.scenario.Scenario.{Scenario}
 use Rattle.journal_statements.specs.LinkRecords.{is_link_held, sent_on, taken_on}
 use Rattle.journal_statements.specs.Noted.{Noted, is_lost}
-use Rattle.link_laws.specs.Carrying.{Apart, Carries, InboxCarries, Keeps, LinkCarries, SayTheSame, StillNew, Stood, is_gone, is_new, joiners}
+use Rattle.link_laws.specs.Carrying.{InboxCarries, LinkCarries, LinkInvariant, LinkStepInvariant, NodesApart, SayTheSame, StillNew, Stood, is_gone, is_new, joiners}
 use Rattle.link_laws.proofs.Places.{first_at, first_passes, same_node_true, set_elim, some_is}
 use Rattle.node_state.specs.declared.life.Life.{Life}
 use Rattle.tx_model.specs.World.{Part, World, if_alive, is_alive, live_place, part_on, place_of}
@@ -55,10 +55,10 @@ new_same a b members steps lost c = record {
 }
 
 -- Records that say the same.
-pub same_keeps : (s : Scenario) (a b : List Noted) (w : World) → SayTheSame s.plan a b → Carries s a w → Carries s b w
+pub same_keeps : (s : Scenario) (a b : List Noted) (w : World) → SayTheSame s.plan a b → LinkInvariant s a w → LinkInvariant s b w
 same_keeps s a b w same c = record {
   plan_is = c.plan_is;
-  homes_are = c.homes_are;
+  session_nodes_are = c.session_nodes_are;
   apart = c.apart;
   lives = λ k p is. c.lives k p is ∙ sym (same.same_lost p.node.me);
   inboxes_are = λ k p inbox is has. inbox_same s.plan a b p.node.me inbox (λ from. same.same_sent from p.node.me) (λ from. same.same_taken from p.node.me) same.same_lost (λ from. same.same_held from p.node.me) (c.inboxes_are k p inbox is has);
@@ -67,17 +67,17 @@ same_keeps s a b w same c = record {
 
 -- Parts that keep their numbers.
 
-apart_stood : (parts after : List Part) → ((k : ℕ) (p : Part) → slice_get after k ≡ Some p → Stood parts k p) → Apart parts → Apart after
+apart_stood : (parts after : List Part) → ((k : ℕ) (p : Part) → slice_get after k ≡ Some p → Stood parts k p) → NodesApart parts → NodesApart after
 apart_stood parts after stood apart j k p q at_j at_k same =
     let a = stood j p at_j in
     let b = stood k q at_k in
     apart j k a.part b.part a.stands b.stands
     (subst (λ (x : NodeId). same_node x b.part.node.me ≡ true) (sym a.same_me) (subst (λ (x : NodeId). same_node p.node.me x ≡ true) (sym b.same_me) same))
 
-pub parts_keep : (s : Scenario) (recs : List Noted) (w : World) (after : List Part) → ((k : ℕ) (p : Part) → slice_get after k ≡ Some p → Stood w.parts k p) → Carries s recs w → Carries s recs (record w { parts = after })
+pub parts_keep : (s : Scenario) (recs : List Noted) (w : World) (after : List Part) → ((k : ℕ) (p : Part) → slice_get after k ≡ Some p → Stood w.parts k p) → LinkInvariant s recs w → LinkInvariant s recs (record w { parts = after })
 parts_keep s recs w after stood c = record {
   plan_is = c.plan_is;
-  homes_are = c.homes_are;
+  session_nodes_are = c.session_nodes_are;
   apart = apart_stood w.parts after stood c.apart;
   lives = λ k p is. let a = stood k p is in sym a.same_life ∙ c.lives k a.part a.stands ∙ ap (λ (x : NodeId). is_lost recs x) a.same_me;
   inboxes_are = λ k p inbox is has. let a = stood k p is in subst (λ (x : NodeId). InboxCarries s.plan recs x inbox) a.same_me (c.inboxes_are k a.part inbox a.stands has);
@@ -91,32 +91,32 @@ set_stood parts k p q is me life j x has =
     (λ i y other at. record { part = y; stands = at; same_me = refl; same_life = refl })
     j x has
 
-pub directory_keeps : (s : Scenario) (recs : List Noted) (w : World) (d : Directory) → d.plan ≡ w.directory.plan → d.members ≡ w.directory.members → d.done ≡ w.directory.done → Carries s recs w → Carries s recs (record w { directory = d })
+pub directory_keeps : (s : Scenario) (recs : List Noted) (w : World) (d : Directory) → d.plan ≡ w.directory.plan → d.members ≡ w.directory.members → d.done ≡ w.directory.done → LinkInvariant s recs w → LinkInvariant s recs (record w { directory = d })
 directory_keeps s recs w d plan members done c = record {
   plan_is = plan ∙ c.plan_is;
-  homes_are = c.homes_are;
+  session_nodes_are = c.session_nodes_are;
   apart = c.apart;
   lives = c.lives;
   inboxes_are = c.inboxes_are;
   waiting = rw (members, done) c.waiting;
 }
 
-pub broken_keeps : (s : Scenario) (recs : List Noted) (w : World) → Carries s recs w → Carries s recs (record w { broken = true })
+pub broken_keeps : (s : Scenario) (recs : List Noted) (w : World) → LinkInvariant s recs w → LinkInvariant s recs (record w { broken = true })
 broken_keeps s recs w c = record {
   plan_is = c.plan_is;
-  homes_are = c.homes_are;
+  session_nodes_are = c.session_nodes_are;
   apart = c.apart;
   lives = c.lives;
   inboxes_are = c.inboxes_are;
   waiting = c.waiting;
 }
 
-pub idle_keeps : (s : Scenario) (recs : List Noted) (w : World) → Carries s recs w → Keeps s recs [] w
-idle_keeps s recs w c = record { passes = refl; carried = subst (λ (r : List Noted). Carries s r w) (sym (append_none recs)) c }
+pub idle_keeps : (s : Scenario) (recs : List Noted) (w : World) → LinkInvariant s recs w → LinkStepInvariant s recs [] w
+idle_keeps s recs w c = record { passes = refl; carried = subst (λ (r : List Noted). LinkInvariant s r w) (sym (append_none recs)) c }
 
 -- Where a node stands.
 
-pub place_is : (w : World) (k : ℕ) (p : Part) (id : NodeId) → Apart w.parts → slice_get w.parts k ≡ Some p → same_node p.node.me id ≡ true → place_of w id ≡ Some k
+pub place_is : (w : World) (k : ℕ) (p : Part) (id : NodeId) → NodesApart w.parts → slice_get w.parts k ≡ Some p → same_node p.node.me id ≡ true → place_of w id ≡ Some k
 place_is w k p id apart is same =
     let first = first_at (λ (x : Part). same_node x.node.me id) w.parts k p is same in
     let both : first.element.node.me ≡ p.node.me = same_node_true first.element.node.me id first.passes ∙ sym (same_node_true p.node.me id same) in
@@ -166,6 +166,6 @@ alive_not_gone life.Alive alive = refl
 alive_not_gone _ alive = absurd (cc)
 
 -- a node that is alive is not lost
-pub not_lost : (s : Scenario) (recs : List Noted) (w : World) (k : ℕ) (p : Part) (id : NodeId) → Carries s recs w → slice_get w.parts k ≡ Some p → same_node p.node.me id ≡ true → is_alive p.life ≡ true → is_lost recs id ≡ false
+pub not_lost : (s : Scenario) (recs : List Noted) (w : World) (k : ℕ) (p : Part) (id : NodeId) → LinkInvariant s recs w → slice_get w.parts k ≡ Some p → same_node p.node.me id ≡ true → is_alive p.life ≡ true → is_lost recs id ≡ false
 not_lost s recs w k p id c is same alive =
     ap (λ (x : NodeId). is_lost recs x) (sym (same_node_true p.node.me id same)) ∙ sym (c.lives k p is) ∙ alive_not_gone p.life alive

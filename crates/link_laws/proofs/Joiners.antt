@@ -4,9 +4,9 @@ use Rattle.std.specs.List.{list_all, list_any}
 use Rattle.std.specs.Prelude.{drop, filter_map, slice_get}
 use Rattle.std.proofs.lemmas.Bool.Decides.{nat_tests}
 use Rattle.std.proofs.lemmas.List.Folds.{list_any-append}
-use Rattle.base_words.specs.Directory.{without_node}
-use Rattle.base_words.specs.NextMap.{is_member}
-use Rattle.base_words.specs.Orders.{raised}
+use Rattle.part_model.specs.Directory.{without_node}
+use Rattle.part_model.specs.NextMap.{is_member}
+use Rattle.part_model.specs.Orders.{next_count}
 use Rattle.ignite_types.specs.Good.{are_distinct, joining}
 use Rattle.ignite_types.specs.Good as good
 use Rattle.ignite_types.specs.Names.{same_node}
@@ -24,7 +24,7 @@ drop_next [] k x is = absurd (cc)
 drop_next (y ∷ ys) zero x is = ap (λ z. z ∷ ys) (some_is y x is)
 drop_next (y ∷ ys) (suc k) x is = drop_next ys k x is
 
-pub raised_is : (k most : ℕ) → k < most → most ≤ 64 → raised k ≡ suc k
+pub raised_is : (k most : ℕ) → k < most → most ≤ 64 → next_count k ≡ suc k
 raised_is k most less short = omega (arith, less, short)
 
 pub map_some : {X Y : Type 0} (f : X → Option Y) (x : X) (xs : List X) (y : Y) → f x ≡ Some y → filter_map f (x ∷ xs) ≡ y ∷ filter_map f xs
@@ -38,7 +38,7 @@ pub none_joins : (ns : List Noted) (members : List Member) (x : PlanStep) (rest 
 none_joins ns members x rest none c =
     let same = map_none (λ (p : PlanStep). joining p.step) x rest none in
     record {
-      are_apart = subst (λ (js : List Member). are_distinct good.same_node js ≡ true) same c.are_apart;
+      are_apart = subst (λ (js : List Member). are_distinct good.same_member_node js ≡ true) same c.are_apart;
       are_new = subst (λ (js : List Member). list_all (is_new ns members) js ≡ true) same c.are_new;
     }
 
@@ -82,7 +82,7 @@ new_after_loss a b members id steps lost member c = record {
           | false ↦ λ f. refl
         ] refl
 
-one_new : (ns : List Noted) (members : List Member) (m k : Member) → good.same_node m k ≡ false → is_new ns members k ≡ true → is_new ns (members ++ m ∷ []) k ≡ true
+one_new : (ns : List Noted) (members : List Member) (m k : Member) → good.same_member_node m k ≡ false → is_new ns members k ≡ true → is_new ns (members ++ m ∷ []) k ≡ true
 one_new ns members m k other new =
     let both = first_rest (not (is_lost ns k.node)) (not (is_member members k.node)) new in
     let apart : same_node k.node m.node ≡ false = (grind (arith, nat_tests, other)) in
@@ -90,11 +90,11 @@ one_new ns members m k other new =
     list_any-append (λ (x : Member). same_node k.node x.node) members (m ∷ []) ∙ ap (λ (r : Bool). r || (same_node k.node m.node || false)) (not_true (is_member members k.node) both.1) ∙ ap (λ (r : Bool). r || false) apart in
     ap (λ (r : Bool). not (is_lost ns k.node) && not r) out ∙ ap (λ (r : Bool). r && true) both.0
 
-more_new : (ns : List Noted) (members : List Member) (m : Member) (ks : List Member) → list_any (good.same_node m) ks ≡ false → list_all (is_new ns members) ks ≡ true → list_all (is_new ns (members ++ m ∷ [])) ks ≡ true
+more_new : (ns : List Noted) (members : List Member) (m : Member) (ks : List Member) → list_any (good.same_member_node m) ks ≡ false → list_all (is_new ns members) ks ≡ true → list_all (is_new ns (members ++ m ∷ [])) ks ≡ true
 more_new ns members m [] apart new = refl
 more_new ns members m (k ∷ ks) apart new =
     let both = first_rest (is_new ns members k) (list_all (is_new ns members) ks) new in
-    (elim (good.same_node m k) as (λ b. good.same_node m k ≡ b → (b || list_any (good.same_node m) ks) ≡ false → (is_new ns (members ++ m ∷ []) k && list_all (is_new ns (members ++ m ∷ [])) ks) ≡ true) [
+    (elim (good.same_member_node m k) as (λ b. good.same_member_node m k ≡ b → (b || list_any (good.same_member_node m) ks) ≡ false → (is_new ns (members ++ m ∷ []) k && list_all (is_new ns (members ++ m ∷ [])) ks) ≡ true) [
       | true ↦ λ t e. absurd (cc)
       | false ↦ λ f e. ap (λ (r : Bool). r && list_all (is_new ns (members ++ m ∷ [])) ks) (one_new ns members m k f both.0) ∙ more_new ns members m ks e both.1
     ]) refl apart
@@ -104,10 +104,10 @@ pub one_joins : (ns : List Noted) (members : List Member) (x : PlanStep) (m : Me
     → StillNew ns members rest × StillNew ns (members ++ m ∷ []) rest × (is_lost ns m.node ≡ false)
 one_joins ns members x m rest joins c =
     let same = map_some (λ (p : PlanStep). joining p.step) x rest m joins in
-    let apart = first_rest (not (list_any (good.same_node m) (joiners rest))) (are_distinct good.same_node (joiners rest)) (subst (λ (js : List Member). are_distinct good.same_node js ≡ true) same c.are_apart) in
+    let apart = first_rest (not (list_any (good.same_member_node m) (joiners rest))) (are_distinct good.same_member_node (joiners rest)) (subst (λ (js : List Member). are_distinct good.same_member_node js ≡ true) same c.are_apart) in
     let new = first_rest (is_new ns members m) (list_all (is_new ns members) (joiners rest)) (subst (λ (js : List Member). list_all (is_new ns members) js ≡ true) same c.are_new) in
     let own = first_rest (not (is_lost ns m.node)) (not (is_member members m.node)) new.0 in (
       record { are_apart = apart.1; are_new = new.1 },
-      record { are_apart = apart.1; are_new = more_new ns members m (joiners rest) (not_true (list_any (good.same_node m) (joiners rest)) apart.0) new.1 },
+      record { are_apart = apart.1; are_new = more_new ns members m (joiners rest) (not_true (list_any (good.same_member_node m) (joiners rest)) apart.0) new.1 },
       not_true (is_lost ns m.node) own.0,
     )

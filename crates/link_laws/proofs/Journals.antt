@@ -4,9 +4,9 @@ use Rattle.std.specs.List.{flat_map, list_all}
 use Rattle.std.proofs.lemmas.Grind.{flat_map-append}
 use Rattle.std.proofs.lemmas.List.Folds.{list_any-append}
 use Rattle.std.proofs.Math.Bool.{and_assoc}
-use Rattle.act_frames.specs.Extending.{is_own}
-use Rattle.act_frames.proofs.Extending.{append_none, append_twice}
-use Rattle.base_words.specs.Orders.{is_node}
+use Rattle.frame_laws.specs.Extending.{is_own}
+use Rattle.frame_laws.proofs.Extending.{append_none, append_twice}
+use Rattle.part_model.specs.Orders.{is_node}
 use Rattle.ignite_types.specs.declared.journal.Rec.{Rec}
 use Rattle.ignite_types.specs.declared.names.NodeId.{NodeId}
 use Rattle.ignite_types.specs.declared.scenario.PlanStep.{PlanStep}

@@ -3,10 +3,10 @@ use Rattle.std.proofs.Common.{◌≡◌, ◌≢◌, ◌++◌, ◌&&◌, List, []
 use Rattle.std.specs.List.{list_all}
 use Rattle.std.specs.Option.{option_and_then}
 use Rattle.std.specs.Prelude.{drop, slice_get, slice_set}
-use Rattle.act_frames.proofs.Acts as acts
-use Rattle.act_frames.proofs.Extending.{append_twice}
-use Rattle.act_rows.specs.Acts.{begun, message_act, oldest_out, sends}
-use Rattle.base_words.specs.Links.{Inbox, Link, held_by, is_held, link_of, oldest, on_link, popped, pushed}
+use Rattle.frame_laws.proofs.Acts as acts
+use Rattle.frame_laws.proofs.Extending.{append_twice}
+use Rattle.act_rows.specs.Acts.{act_of_send, message_act, oldest_out, with_act_begun}
+use Rattle.part_model.specs.Links.{Inbox, Link, inbox_after_pop, inbox_after_push, is_held, is_link_held_by, link_of, oldest_in, on_link}
 use Rattle.ignite_types.specs.Names.{same_node}
 use Rattle.ignite_types.specs.declared.journal.Rec.{Rec}
 use Rattle.ignite_types.specs.declared.message.Message.{Message}
@@ -16,7 +16,7 @@ use Rattle.ignite_types.specs.declared.scenario.PlanStep.{PlanStep}
 use Rattle.ignite_types.specs.declared.scenario.Scenario.{Scenario}
 use Rattle.journal_statements.specs.LinkRecords.{is_link_held, is_next_message, is_that_message, sent_on, taken_on}
 use Rattle.journal_statements.specs.Noted.{Noted, each_from, is_lost, noted_by}
-use Rattle.link_laws.specs.Carrying.{Apart, Carries, InboxCarries, LinkCarries, fits, is_calm}
+use Rattle.link_laws.specs.Carrying.{InboxCarries, LinkCarries, LinkInvariant, NodesApart, fits, is_calm}
 use Rattle.link_laws.proofs.Frames.{at_live, inbox_same, link_same, new_same, not_lost, parts_keep, place_is, same_keeps, set_stood, stands_there}
 use Rattle.link_laws.proofs.Journals.{all_calm, both_calm, calm_fits, calm_same, each_both, first_rest}
 use Rattle.link_laws.proofs.LinkTables.{on_link_elim}
@@ -24,7 +24,7 @@ use Rattle.link_laws.proofs.NodeEvents.{KeepsAt, calm_keeps, stays}
 use Rattle.link_laws.proofs.OneRecord.{more_held, no_more_lost, no_more_sent, no_more_taken, not_sent_to, not_taken_from, sending, sent_elsewhere, sent_there, taken_elsewhere, taken_there, taking}
 use Rattle.link_laws.proofs.Places.{same_node_itself, same_node_true, same_node_turned, set_elim, some_is}
 use Rattle.link_laws.proofs.SameMessages.{same_message_itself}
-use Rattle.tx_model.specs.World.{Part, World, acted, delivers, inbox_on, is_alive, live_place, part_on, place_of, reaches, sends_at, takes_at, takes_from, with_inbox}
+use Rattle.tx_model.specs.World.{Part, World, act_outcome, act_outcome_from, inbox_on, is_alive, live_place, outcome_of_act, part_on, place_of, send_outcome, with_delivery, with_inbox, with_inbox_push}
 
 pub closed_same : (b : Inbox) (from : NodeId) (f : Link → Link) (r : Option Link) → (on_link b from f r).closed ≡ b.closed
 closed_same b from f None = refl
@@ -32,10 +32,10 @@ closed_same b from f (Some l) = refl
 
 -- other inboxes, while no node is lost
 pub inboxes_change : (s : Scenario) (a b : List Noted) (w : World) (inboxes : List Inbox) → ((node : NodeId) → is_lost b node ≡ is_lost a node)
-    → ((k : ℕ) (p : Part) (inbox : Inbox) → slice_get w.parts k ≡ Some p → slice_get inboxes k ≡ Some inbox → InboxCarries s.plan b p.node.me inbox) → Carries s a w → Carries s b (record w { inboxes = inboxes })
+    → ((k : ℕ) (p : Part) (inbox : Inbox) → slice_get w.parts k ≡ Some p → slice_get inboxes k ≡ Some inbox → InboxCarries s.plan b p.node.me inbox) → LinkInvariant s a w → LinkInvariant s b (record w { inboxes = inboxes })
 inboxes_change s a b w inboxes lost each c = record {
   plan_is = c.plan_is;
-  homes_are = c.homes_are;
+  session_nodes_are = c.session_nodes_are;
   apart = c.apart;
   lives = λ k p is. c.lives k p is ∙ sym (lost p.node.me);
   inboxes_are = each;
@@ -43,7 +43,7 @@ inboxes_change s a b w inboxes lost each c = record {
 }
 
 -- at another place stands another node
-pub other_place : (parts : List Part) (i k : ℕ) (p q : Part) → Apart parts → slice_get parts i ≡ Some q → slice_get parts k ≡ Some p → i ≢ k → same_node q.node.me p.node.me ≡ false
+pub other_place : (parts : List Part) (i k : ℕ) (p q : Part) → NodesApart parts → slice_get parts i ≡ Some q → slice_get parts k ≡ Some p → i ≢ k → same_node q.node.me p.node.me ≡ false
 other_place parts i k p q apart at_i at_k other =
     elim (same_node q.node.me p.node.me) as (λ b. same_node q.node.me p.node.me ≡ b → b ≡ false) [
       | true ↦ λ t. absurd (other (apart i k q p at_i at_k t))
@@ -57,7 +57,7 @@ seam [] m ms = refl
 seam (t ∷ ts) m ms = seam ts m ms
 
 pub popped_carries : (plan : List PlanStep) (ns : List Noted) (id from : NodeId) (m : Message) (ms : List Message) (b : Inbox) (l : Link) → link_of b from ≡ Some l → l.messages ≡ m ∷ ms
-    → is_lost ns from ≡ false → is_lost ns id ≡ false → InboxCarries plan ns id b → InboxCarries plan (ns ++ taking id from m ∷ []) id (popped b from)
+    → is_lost ns from ≡ false → is_lost ns id ≡ false → InboxCarries plan ns id b → InboxCarries plan (ns ++ taking id from m ∷ []) id (inbox_after_pop b from)
 popped_carries plan ns id from m ms b l some has from_lives id_lives c =
     let next = ns ++ taking id from m ∷ [] in
     let lost = λ (node : NodeId). no_more_lost ns (taking id from m) node refl in
@@ -84,15 +84,15 @@ popped_carries plan ns id from m ms b l some has from_lives id_lives c =
           link_same plan ns next x id k (no_more_sent x id ns (taking id from m) refl) (no_more_taken x id ns (taking id from m) (not_taken_from from x m other)) (lost x) (lost id) (more_held plan x id ns (taking id from m)) (c.links_are x k is));
     }
 
-take_one : (s : Scenario) (ns : List Noted) (w : World) (c : Carries s ns w) (k : ℕ) (p : Part) (b : Inbox) (from : NodeId) (l : Link) (m : Message) (ms : List Message) → slice_get w.parts k ≡ Some p → slice_get w.inboxes k ≡ Some b
-    → link_of b from ≡ Some l → l.messages ≡ m ∷ ms → is_lost ns from ≡ false → is_lost ns p.node.me ≡ false → Carries s (ns ++ taking p.node.me from m ∷ []) (with_inbox w k (popped b from))
+take_one : (s : Scenario) (ns : List Noted) (w : World) (c : LinkInvariant s ns w) (k : ℕ) (p : Part) (b : Inbox) (from : NodeId) (l : Link) (m : Message) (ms : List Message) → slice_get w.parts k ≡ Some p → slice_get w.inboxes k ≡ Some b
+    → link_of b from ≡ Some l → l.messages ≡ m ∷ ms → is_lost ns from ≡ false → is_lost ns p.node.me ≡ false → LinkInvariant s (ns ++ taking p.node.me from m ∷ []) (with_inbox w k (inbox_after_pop b from))
 take_one s ns w c k p b from l m ms is inbox some has from_lives lives =
     let n = taking p.node.me from m in
     let next = ns ++ n ∷ [] in
-    inboxes_change s ns next w (slice_set w.inboxes k (popped b from)) (λ node. no_more_lost ns n node refl)
+    inboxes_change s ns next w (slice_set w.inboxes k (inbox_after_pop b from)) (λ node. no_more_lost ns n node refl)
     (λ j q b2 at_j has_j.
-    set_elim w.inboxes k (popped b from) (λ (i : ℕ) (y : Inbox). (x : Part) → slice_get w.parts i ≡ Some x → InboxCarries s.plan next x.node.me y)
-    (λ x at_k. subst (λ (y : Part). InboxCarries s.plan next y.node.me (popped b from)) (some_is p x (sym is ∙ at_k))
+    set_elim w.inboxes k (inbox_after_pop b from) (λ (i : ℕ) (y : Inbox). (x : Part) → slice_get w.parts i ≡ Some x → InboxCarries s.plan next x.node.me y)
+    (λ x at_k. subst (λ (y : Part). InboxCarries s.plan next y.node.me (inbox_after_pop b from)) (some_is p x (sym is ∙ at_k))
     (popped_carries s.plan ns p.node.me from m ms b l some has from_lives lives (c.inboxes_are k p b is inbox)))
     (λ i y other at_i x at_x.
     inbox_same s.plan ns next x.node.me y (λ f. no_more_sent f x.node.me ns n refl) (λ f. taken_elsewhere f x.node.me ns n (other_place w.parts i k p x c.apart at_x is other))
@@ -112,9 +112,9 @@ not_held : (b : Bool) → not b ≡ true → b ≡ false
 not_held true e = absurd (cc)
 not_held false e = refl
 
-module _ (s : Scenario) (recs : List Noted) (w : World) (c : Carries s recs w) where
+module _ (s : Scenario) (recs : List Noted) (w : World) (c : LinkInvariant s recs w) where
   taken_keeps : (k : ℕ) (p : Part) (b : Inbox) (from : NodeId) (l : Link) (m : Message) (ms : List Message) → slice_get w.parts k ≡ Some p → slice_get w.inboxes k ≡ Some b → is_alive p.life ≡ true
-      → link_of b from ≡ Some l → l.held ≡ false → l.messages ≡ m ∷ ms → KeepsAt s recs (Some p.node.me) (takes_from w k p b from (Some m))
+      → link_of b from ≡ Some l → l.held ≡ false → l.messages ≡ m ∷ ms → KeepsAt s recs (Some p.node.me) (act_outcome_from w k p b from (Some m))
   taken_keeps k p b from l m ms is inbox alive some held has =
       let me = p.node.me in
       let n = taking me from m in
@@ -140,21 +140,21 @@ module _ (s : Scenario) (recs : List Noted) (w : World) (c : Carries s recs w) w
       record {
         passes = each_both (fits s.plan) recs (n ∷ []) (noted_by (Some me) rest) first (calm_fits s.plan next me rest calm still);
         carried =
-            subst (λ (r : List Noted). Carries s r (takes_from w k p b from (Some m)).world) (append_twice recs (n ∷ []) (noted_by (Some me) rest))
-            (same_keeps s next (next ++ noted_by (Some me) rest) (takes_from w k p b from (Some m)).world (calm_same s.plan next (Some me) rest calm)
-            (parts_keep s next (with_inbox w k (popped b from)) (slice_set w.parts k (record { node = act.state; life = p.life }))
+            subst (λ (r : List Noted). LinkInvariant s r (act_outcome_from w k p b from (Some m)).world) (append_twice recs (n ∷ []) (noted_by (Some me) rest))
+            (same_keeps s next (next ++ noted_by (Some me) rest) (act_outcome_from w k p b from (Some m)).world (calm_same s.plan next (Some me) rest calm)
+            (parts_keep s next (with_inbox w k (inbox_after_pop b from)) (slice_set w.parts k (record { node = act.state; life = p.life }))
             (set_stood w.parts k p (record { node = act.state; life = p.life }) is (sym taken.0.same_me) refl)
             (take_one s recs w c k p b from l m ms is inbox some has from_lives lives)));
       }
 
   take_from : (k : ℕ) (p : Part) (b : Inbox) (from : NodeId) → slice_get w.parts k ≡ Some p → slice_get w.inboxes k ≡ Some b → is_alive p.life ≡ true
-      → (not (is_held b from) && is_some (oldest b from)) ≡ true → KeepsAt s recs (Some p.node.me) (takes_from w k p b from (oldest b from))
+      → (not (is_held b from) && is_some (oldest_in b from)) ≡ true → KeepsAt s recs (Some p.node.me) (act_outcome_from w k p b from (oldest_in b from))
   take_from k p b from is inbox alive can =
-      (elim (link_of b from) as (λ r. link_of b from ≡ r → (not (held_by r) && is_some (option_and_then (λ (link : Link). slice_get link.messages 0) r)) ≡ true
-      → KeepsAt s recs (Some p.node.me) (takes_from w k p b from (option_and_then (λ (link : Link). slice_get link.messages 0) r))) [
+      (elim (link_of b from) as (λ r. link_of b from ≡ r → (not (is_link_held_by r) && is_some (option_and_then (λ (link : Link). slice_get link.messages 0) r)) ≡ true
+      → KeepsAt s recs (Some p.node.me) (act_outcome_from w k p b from (option_and_then (λ (link : Link). slice_get link.messages 0) r))) [
         | None ↦ λ none e. stays s recs w c (Some p.node.me)
         | Some l ↦ λ some e.
-            elim l.messages as (λ ms. l.messages ≡ ms → KeepsAt s recs (Some p.node.me) (takes_from w k p b from (slice_get ms 0))) [
+            elim l.messages as (λ ms. l.messages ≡ ms → KeepsAt s recs (Some p.node.me) (act_outcome_from w k p b from (slice_get ms 0))) [
               | [] ↦ λ none. stays s recs w c (Some p.node.me)
               | m ∷ ms ↦ λ has. taken_keeps k p b from l m ms is inbox alive some (not_held l.held (first_rest (not l.held) (is_some (slice_get l.messages 0)) e).0) has
             ] refl
@@ -162,9 +162,9 @@ module _ (s : Scenario) (recs : List Noted) (w : World) (c : Carries s recs w) w
 
   -- a node takes a message
   pub act_keeps : (id from : NodeId) (k : ℕ) (p : Part) (b : Inbox) → slice_get w.parts k ≡ Some p → slice_get w.inboxes k ≡ Some b → same_node p.node.me id ≡ true → is_alive p.life ≡ true
-      → (not (is_held b from) && is_some (oldest b from)) ≡ true → KeepsAt s recs (Some id) (takes_at w from (Some k) (Some p) (Some b))
+      → (not (is_held b from) && is_some (oldest_in b from)) ≡ true → KeepsAt s recs (Some id) (act_outcome w from (Some k) (Some p) (Some b))
   act_keeps id from k p b is inbox same alive can =
-      subst (λ (x : NodeId). KeepsAt s recs (Some x) (takes_from w k p b from (oldest b from))) (same_node_true p.node.me id same) (take_from k p b from is inbox alive can)
+      subst (λ (x : NodeId). KeepsAt s recs (Some x) (act_outcome_from w k p b from (oldest_in b from))) (same_node_true p.node.me id same) (take_from k p b from is inbox alive can)
 
   -- Sending.
 
@@ -216,7 +216,7 @@ module _ (s : Scenario) (recs : List Noted) (w : World) (c : Carries s recs w) w
             };
       }
 
-  pushed_carries : (id to : NodeId) (m : Message) (b : Inbox) → is_lost recs id ≡ false → InboxCarries s.plan recs to b → InboxCarries s.plan (recs ++ sending id to m ∷ []) to (pushed b id m)
+  pushed_carries : (id to : NodeId) (m : Message) (b : Inbox) → is_lost recs id ≡ false → InboxCarries s.plan recs to b → InboxCarries s.plan (recs ++ sending id to m ∷ []) to (inbox_after_push b id m)
   pushed_carries id to m b id_lives before =
       elim b.closed as (λ x. b.closed ≡ x → InboxCarries s.plan (recs ++ sending id to m ∷ []) to (if x then b else on_link b id (λ (link : Link). record link { messages = link.messages ++ m ∷ [] }) (link_of b id))) [
         | true ↦ λ t. pushed_shut id to m b (sym before.closed_is ∙ t) before
@@ -238,7 +238,7 @@ module _ (s : Scenario) (recs : List Noted) (w : World) (c : Carries s recs w) w
       ] refl
 
   pub reached : (id to : NodeId) (m : Message) (r : Option ℕ) (i : Option Inbox) → is_lost recs id ≡ false → place_of w to ≡ r → inbox_on w r ≡ i
-      → Carries s (recs ++ sending id to m ∷ []) (reaches w id m r i) × ((reaches w id m r i).parts ≡ w.parts)
+      → LinkInvariant s (recs ++ sending id to m ∷ []) (with_inbox_push w id m r i) × ((with_inbox_push w id m r i).parts ≡ w.parts)
   reached id to m None i lives place has =
       (inboxes_change s recs _ w w.inboxes (λ node. no_more_lost recs (sending id to m) node refl) (λ j q b at_j has_j. away id to m j q b at_j has_j (λ e. absurd (cc (place, e)))) c, refl)
   reached id to m (Some k) None lives place has = (
@@ -250,26 +250,26 @@ module _ (s : Scenario) (recs : List Noted) (w : World) (c : Carries s recs w) w
     refl,
   )
   reached id to m (Some k) (Some b) lives place has = (
-    inboxes_change s recs _ w (slice_set w.inboxes k (pushed b id m)) (λ node. no_more_lost recs (sending id to m) node refl)
+    inboxes_change s recs _ w (slice_set w.inboxes k (inbox_after_push b id m)) (λ node. no_more_lost recs (sending id to m) node refl)
         (λ j q b2 at_j has_j.
-        set_elim w.inboxes k (pushed b id m) (λ (i : ℕ) (y : Inbox). (x : Part) → slice_get w.parts i ≡ Some x → InboxCarries s.plan (recs ++ sending id to m ∷ []) x.node.me y)
+        set_elim w.inboxes k (inbox_after_push b id m) (λ (i : ℕ) (y : Inbox). (x : Part) → slice_get w.parts i ≡ Some x → InboxCarries s.plan (recs ++ sending id to m ∷ []) x.node.me y)
         (λ x at_k.
         let same : x.node.me ≡ to = same_node_true x.node.me to (stands_there w k x to place at_k) in
-        subst (λ (y : NodeId). InboxCarries s.plan (recs ++ sending id to m ∷ []) y (pushed b id m)) (sym same)
+        subst (λ (y : NodeId). InboxCarries s.plan (recs ++ sending id to m ∷ []) y (inbox_after_push b id m)) (sym same)
         (pushed_carries id to m b lives (subst (λ (y : NodeId). InboxCarries s.plan recs y b) same (c.inboxes_are k x b at_k has))))
         (λ i y other at_i x at_x. away id to m i x y at_x at_i (λ e. absurd (other (some_is i k (sym e ∙ place)))))
         j b2 has_j q at_j) c,
     refl,
   )
 
-  sent_keeps : (k : ℕ) (p : Part) (out : Out) → slice_get w.parts k ≡ Some p → is_alive p.life ≡ true → KeepsAt s recs (Some p.node.me) (acted (delivers w p.node.me (Some out)) k p (sends (begun p.node) (Some out)))
+  sent_keeps : (k : ℕ) (p : Part) (out : Out) → slice_get w.parts k ≡ Some p → is_alive p.life ≡ true → KeepsAt s recs (Some p.node.me) (outcome_of_act (with_delivery w p.node.me (Some out)) k p (act_of_send (with_act_begun p.node) (Some out)))
   sent_keeps k p out is alive =
       let me = p.node.me in
       let lives : is_lost recs me ≡ false = not_lost s recs w k p me c is (same_node_itself me) alive in
       let place = place_of w out.to in
-      let w2 = reaches w me out.msg place (inbox_on w place) in
+      let w2 = with_inbox_push w me out.msg place (inbox_on w place) in
       let reach = reached me out.to out.msg place (inbox_on w place) lives refl refl in
-      let act = sends (begun p.node) (Some out) in
+      let act = act_of_send (with_act_begun p.node) (Some out) in
       record {
         passes = ap (λ (a : Bool). (not a && true) && true) lives;
         carried =
@@ -278,11 +278,11 @@ module _ (s : Scenario) (recs : List Noted) (w : World) (c : Carries s recs w) w
             reach.0;
       }
 
-  pub send_keeps : (id : NodeId) → KeepsAt s recs (Some id) (let place = live_place w id in sends_at w place (part_on w place))
+  pub send_keeps : (id : NodeId) → KeepsAt s recs (Some id) (let place = live_place w id in send_outcome w place (part_on w place))
   send_keeps id =
-      at_live w id (λ r q. KeepsAt s recs (Some id) (sends_at w r q)) (stays s recs w c (Some id)) (λ k. stays s recs w c (Some id))
+      at_live w id (λ r q. KeepsAt s recs (Some id) (send_outcome w r q)) (stays s recs w c (Some id)) (λ k. stays s recs w c (Some id))
       (λ k p place is same alive.
-      elim (oldest_out p.node) as (λ o. KeepsAt s recs (Some id) (acted (delivers w p.node.me o) k p (sends (begun p.node) o))) [
-        | None ↦ calm_keeps s recs w c id k p w.directory (sends (begun p.node) None) is same alive refl refl refl refl refl
-        | Some out ↦ subst (λ (x : NodeId). KeepsAt s recs (Some x) (acted (delivers w p.node.me (Some out)) k p (sends (begun p.node) (Some out)))) (same_node_true p.node.me id same) (sent_keeps k p out is alive)
+      elim (oldest_out p.node) as (λ o. KeepsAt s recs (Some id) (outcome_of_act (with_delivery w p.node.me o) k p (act_of_send (with_act_begun p.node) o))) [
+        | None ↦ calm_keeps s recs w c id k p w.directory (act_of_send (with_act_begun p.node) None) is same alive refl refl refl refl refl
+        | Some out ↦ subst (λ (x : NodeId). KeepsAt s recs (Some x) (outcome_of_act (with_delivery w p.node.me (Some out)) k p (act_of_send (with_act_begun p.node) (Some out)))) (same_node_true p.node.me id same) (sent_keeps k p out is alive)
       ])

@@ -5,8 +5,8 @@ use Rattle.std.specs.Ordering.{match_ordering}
 use Rattle.std.specs.declared.cmp.Ordering.TheVariants.{Less, Equal, Greater}
 use Rattle.std.proofs.lemmas.Bool.Decides.{nat_tests}
 use Rattle.std.proofs.lemmas.Map.Lookups.{exact_unsigned}
-use Rattle.base_words.specs.Links.{Inbox, Link, emptied, emptied_each, link_of, on_link, shut, with_link}
-use Rattle.base_words.specs.Tables.{keys_in}
+use Rattle.part_model.specs.Links.{Inbox, Link, inbox_shut, link_of, on_link, with_link, without_messages_of, without_messages_of_each}
+use Rattle.part_model.specs.Tables.{keys_in}
 use Rattle.ignite_types.specs.Names.{node_cmp, same_node}
 use Rattle.ignite_types.specs.declared.names.NodeId.{NodeId}
 use Rattle.link_laws.proofs.Places.{node_apart, node_total, same_node_itself, same_node_true, some_is}
@@ -38,10 +38,10 @@ on_link_elim b from f P here there x l is =
 
 -- what holds of a sender's link holds after links are emptied
 pub emptied_keeps : (b : Inbox) (ks : List NodeId) (x : NodeId) (Q : Link → Type 0) → ((l : Link) → Q l → Q (record l { messages = [] }))
-    → ((l : Link) → link_of b x ≡ Some l → Q l) → (l : Link) → link_of (emptied_each b ks) x ≡ Some l → Q l
+    → ((l : Link) → link_of b x ≡ Some l → Q l) → (l : Link) → link_of (without_messages_of_each b ks) x ≡ Some l → Q l
 emptied_keeps b [] x Q clears before l is = before l is
 emptied_keeps b (k ∷ ks) x Q clears before l is =
-    emptied_keeps (emptied b k) ks x Q clears
+    emptied_keeps (without_messages_of b k) ks x Q clears
     (λ m has. on_link_elim b k (λ (link : Link). record link { messages = [] }) (λ (y : NodeId) (n : Link). y ≡ x → Q n)
     (λ old some same. clears old (before old (subst (λ (y : NodeId). link_of b y ≡ Some old) same some)))
     (λ y n other some same. before n (subst (λ (z : NodeId). link_of b z ≡ Some n) same some))
@@ -49,7 +49,7 @@ emptied_keeps b (k ∷ ks) x Q clears before l is =
     l is
 
 -- the link of an emptied sender is empty
-pub emptied_there : (b : Inbox) (k x : NodeId) → same_node x k ≡ true → (l : Link) → link_of (emptied b k) x ≡ Some l → l.messages ≡ []
+pub emptied_there : (b : Inbox) (k x : NodeId) → same_node x k ≡ true → (l : Link) → link_of (without_messages_of b k) x ≡ Some l → l.messages ≡ []
 emptied_there b k x same l is =
     on_link_elim b k (λ (link : Link). record link { messages = [] }) (λ (y : NodeId) (n : Link). y ≡ k → n.messages ≡ [])
     (λ old some at. refl)
@@ -60,12 +60,12 @@ pub or_true : (a : Bool) → (a || true) ≡ true
 or_true true = refl
 or_true false = refl
 
-emptied_all : (b : Inbox) (ks : List NodeId) (x : NodeId) → list_any (same_node x) ks ≡ true → (l : Link) → link_of (emptied_each b ks) x ≡ Some l → l.messages ≡ []
+emptied_all : (b : Inbox) (ks : List NodeId) (x : NodeId) → list_any (same_node x) ks ≡ true → (l : Link) → link_of (without_messages_of_each b ks) x ≡ Some l → l.messages ≡ []
 emptied_all b [] x among l is = absurd (cc)
 emptied_all b (k ∷ ks) x among l is =
     (elim (same_node x k) as (λ c. same_node x k ≡ c → (c || list_any (same_node x) ks) ≡ true → l.messages ≡ []) [
-      | true ↦ λ same any. emptied_keeps (emptied b k) ks x (λ (m : Link). m.messages ≡ []) (λ m e. refl) (emptied_there b k x same) l is
-      | false ↦ λ other any. emptied_all (emptied b k) ks x any l is
+      | true ↦ λ same any. emptied_keeps (without_messages_of b k) ks x (λ (m : Link). m.messages ≡ []) (λ m e. refl) (emptied_there b k x same) l is
+      | false ↦ λ other any. emptied_all (without_messages_of b k) ks x any l is
     ]) refl among
 
 -- who has a link is among the keys
@@ -82,7 +82,7 @@ has_key (e ∷ es) x l is =
     ]) refl is
 
 -- all links of a shut inbox are empty, and held as they were
-pub shut_empty : (b : Inbox) (x : NodeId) (l : Link) → link_of (shut b) x ≡ Some l → l.messages ≡ []
+pub shut_empty : (b : Inbox) (x : NodeId) (l : Link) → link_of (inbox_shut b) x ≡ Some l → l.messages ≡ []
 shut_empty b x l is =
     elim (link_of b x) as (λ r. link_of b x ≡ r → l.messages ≡ []) [
       | None ↦ λ none. emptied_keeps b (keys_in b.links) x (λ (m : Link). m.messages ≡ []) (λ m e. refl) (λ m has. absurd (cc (none, has))) l is
@@ -90,5 +90,5 @@ shut_empty b x l is =
     ] refl
 
 pub shut_keeps : (b : Inbox) (x : NodeId) (Q : Link → Type 0) → ((l : Link) → Q l → Q (record l { messages = [] }))
-    → ((l : Link) → link_of b x ≡ Some l → Q l) → (l : Link) → link_of (shut b) x ≡ Some l → Q l
+    → ((l : Link) → link_of b x ≡ Some l → Q l) → (l : Link) → link_of (inbox_shut b) x ≡ Some l → Q l
 shut_keeps b x Q clears before l is = emptied_keeps b (keys_in b.links) x Q clears before l is

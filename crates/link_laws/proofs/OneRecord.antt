@@ -1,8 +1,8 @@
 -- What one more record says of links.
 use Rattle.std.proofs.Common.{◌≡◌, ◌++◌, ◌||◌, List, [], ◌∷◌, Some, Bool, false, if◌then◌else◌, ap, ◌∙◌}
 use Rattle.std.specs.List.{flat_map}
-use Rattle.act_frames.proofs.Extending.{append_none}
-use Rattle.base_words.specs.Orders.{is_node}
+use Rattle.frame_laws.proofs.Extending.{append_none}
+use Rattle.part_model.specs.Orders.{is_node}
 use Rattle.ignite_types.specs.Names.{same_node}
 use Rattle.ignite_types.specs.declared.journal.Rec.{Rec}
 use Rattle.ignite_types.specs.declared.message.Message.{Message}

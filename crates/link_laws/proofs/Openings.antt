@@ -6,16 +6,16 @@ use Rattle.std.specs.declared.cmp.Ordering.TheVariants.{Less, Equal, Greater}
 use Rattle.std.specs.Prelude.{nat_le, nat_lt, slice_get}
 use Rattle.std.proofs.lemmas.Bool.Decides.{nat_tests}
 use Rattle.std.proofs.lemmas.List.Folds.{list_any-append}
-use Rattle.base_words.specs.Directory.{node_set}
-use Rattle.base_words.specs.Links.{Inbox, Link, inbox_from, new_inbox}
-use Rattle.base_words.specs.NextMap.{is_member}
+use Rattle.part_model.specs.Directory.{node_set}
+use Rattle.part_model.specs.Links.{Inbox, Link, inbox_from, new_inbox}
+use Rattle.part_model.specs.NextMap.{is_member}
 use Rattle.ignite_types.specs.Good.{are_distinct, members}
 use Rattle.ignite_types.specs.Good as good
 use Rattle.ignite_types.specs.Names.{node_cmp, same_node}
 use Rattle.ignite_types.specs.declared.names.NodeId.{NodeId}
 use Rattle.ignite_types.specs.declared.scenario.Member.{Member}
 use Rattle.ignite_types.specs.declared.scenario.Scenario.{Scenario}
-use Rattle.link_laws.specs.Carrying.{Carries, InboxCarries, is_gone, is_new, joiners}
+use Rattle.link_laws.specs.Carrying.{InboxCarries, LinkInvariant, is_gone, is_new, joiners}
 use Rattle.link_laws.proofs.Journals.{first_rest}
 use Rattle.link_laws.proofs.Joiners.{not_true}
 use Rattle.link_laws.proofs.Places.{after_map, node_apart, node_total, same_node_true, some_is}
@@ -125,26 +125,26 @@ empty_links links (k ∷ ks) x l before is =
 
 -- Who joins later is no member at first.
 
-apart_parts : (xs ys : List Member) → are_distinct good.same_node (xs ++ ys) ≡ true → (are_distinct good.same_node ys ≡ true) × (list_all (is_new [] xs) ys ≡ true)
+apart_parts : (xs ys : List Member) → are_distinct good.same_member_node (xs ++ ys) ≡ true → (are_distinct good.same_member_node ys ≡ true) × (list_all (is_new [] xs) ys ≡ true)
 apart_parts [] ys apart = (apart, none_yet ys)
   where
     none_yet : (zs : List Member) → list_all (is_new [] []) zs ≡ true
     none_yet [] = refl
     none_yet (z ∷ zs) = none_yet zs
 apart_parts (x ∷ xs) ys apart =
-    let both = first_rest (not (list_any (good.same_node x) (xs ++ ys))) (are_distinct good.same_node (xs ++ ys)) apart in
+    let both = first_rest (not (list_any (good.same_member_node x) (xs ++ ys))) (are_distinct good.same_member_node (xs ++ ys)) apart in
     let rest = apart_parts xs ys both.1 in
-    (rest.0, one_more ys (no_right (list_any (good.same_node x) xs) (list_any (good.same_node x) ys) (sym (list_any-append (good.same_node x) xs ys) ∙ not_true (list_any (good.same_node x) (xs ++ ys)) both.0)) rest.1)
+    (rest.0, one_more ys (no_right (list_any (good.same_member_node x) xs) (list_any (good.same_member_node x) ys) (sym (list_any-append (good.same_member_node x) xs ys) ∙ not_true (list_any (good.same_member_node x) (xs ++ ys)) both.0)) rest.1)
   where
     no_right : (a b : Bool) → (a || b) ≡ false → b ≡ false
     no_right true b e = absurd (cc)
     no_right false b e = e
 
-    one_more : (zs : List Member) → list_any (good.same_node x) zs ≡ false → list_all (is_new [] xs) zs ≡ true → list_all (is_new [] (x ∷ xs)) zs ≡ true
+    one_more : (zs : List Member) → list_any (good.same_member_node x) zs ≡ false → list_all (is_new [] xs) zs ≡ true → list_all (is_new [] (x ∷ xs)) zs ≡ true
     one_more [] none all = refl
     one_more (z ∷ zs) none all =
         let new = first_rest (is_new [] xs z) (list_all (is_new [] xs) zs) all in
-        (elim (good.same_node x z) as (λ b. good.same_node x z ≡ b → (b || list_any (good.same_node x) zs) ≡ false → list_all (is_new [] (x ∷ xs)) (z ∷ zs) ≡ true) [
+        (elim (good.same_member_node x z) as (λ b. good.same_member_node x z ≡ b → (b || list_any (good.same_member_node x) zs) ≡ false → list_all (is_new [] (x ∷ xs)) (z ∷ zs) ≡ true) [
           | true ↦ λ t e. absurd (cc)
           | false ↦ λ f e.
               let other : same_node z.node x.node ≡ false = (grind (arith, nat_tests, f)) in
@@ -155,14 +155,14 @@ not_gone : (b : Bool) → is_gone (if b then life.Alive else life.Absent) ≡ fa
 not_gone true = refl
 not_gone false = refl
 
-pub opening_carries : (s : Scenario) → are_distinct good.same_node (members s) ≡ true → Carries s [] (opening s)
+pub opening_carries : (s : Scenario) → are_distinct good.same_member_node (members s) ≡ true → LinkInvariant s [] (opening s)
 opening_carries s apart =
     let ids = ids_of s in
     let m = opening_map_of s in
     let parts = apart_parts s.nodes (joiners s.plan) apart in
     record {
       plan_is = refl;
-      homes_are = refl;
+      session_nodes_are = refl;
       apart = λ j k p q at_j at_k same.
           let a = after_map (opening_part s m) ids j p at_j in
           let b = after_map (opening_part s m) ids k q at_k in

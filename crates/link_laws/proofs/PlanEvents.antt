@@ -3,15 +3,15 @@ use Rattle.std.proofs.Common.{◌≡◌, ◌≢◌, ◌≤◌, ◌++◌, ◌&&�
 use Rattle.std.specs.Option.{option_and_then}
 use Rattle.std.specs.Prelude.{drop, fold, slice_get, slice_set}
 use Rattle.std.proofs.lemmas.Option.{slice_get_within}
-use Rattle.act_frames.proofs.Acts as acts
-use Rattle.act_frames.proofs.Exchange.{learns_kept}
-use Rattle.act_frames.specs.Extending.{Extends}
+use Rattle.frame_laws.proofs.Acts as acts
+use Rattle.frame_laws.proofs.Exchange.{learns_kept}
+use Rattle.frame_laws.specs.Extending.{OnlyAppends}
 use Rattle.act_rows.specs.Acts.{join_act}
-use Rattle.act_rows.specs.Exchange.{learned, learns, without_single}
-use Rattle.base_words.specs.Directory.{Directory, appended, joined, loss_refused, step_done, without_node}
-use Rattle.base_words.specs.Links.{Inbox, Link, emptied, link_of, shut, with_hold}
-use Rattle.base_words.specs.NextMap.{is_member}
-use Rattle.base_words.specs.Orders.{raised}
+use Rattle.act_rows.specs.Exchange.{after_learn, after_learn_all, without_single}
+use Rattle.part_model.specs.Directory.{Directory, directory_after_join, refusal_of_loss, with_event, with_step_done, without_node}
+use Rattle.part_model.specs.Links.{Inbox, Link, inbox_shut, link_of, with_hold, without_messages_of}
+use Rattle.part_model.specs.NextMap.{is_member}
+use Rattle.part_model.specs.Orders.{next_count}
 use Rattle.ignite_types.specs.Good.{joining}
 use Rattle.ignite_types.specs.Names.{same_node}
 use Rattle.ignite_types.specs.declared.journal.NoLoss.{NoLoss}
@@ -24,18 +24,18 @@ use Rattle.ignite_types.specs.declared.scenario.Scenario.{Scenario}
 use Rattle.ignite_types.specs.declared.scenario.Step.{Step}
 use Rattle.journal_statements.specs.LinkRecords.{hold_after, hold_after_planned, is_link, is_link_held, sent_on, taken_on}
 use Rattle.journal_statements.specs.Noted.{Noted, is_lost, joiner_in, noted_by, noted_in_plan}
-use Rattle.link_laws.specs.Carrying.{Carries, InboxCarries, Keeps, LinkCarries, SayTheSame, StillNew, fits, is_gone}
+use Rattle.link_laws.specs.Carrying.{InboxCarries, LinkCarries, LinkInvariant, LinkStepInvariant, SayTheSame, StillNew, fits, is_gone}
 use Rattle.link_laws.proofs.Frames.{inbox_same, link_same, new_same, parts_keep, place_is, same_keeps, set_stood, stands_there}
 use Rattle.link_laws.proofs.Joiners.{drop_next, new_after_loss, none_joins, one_joins, raised_is}
 use Rattle.link_laws.proofs.Journals.{calm_fits, calm_same, each_both, hold_parts, lost_parts, or_none, sent_parts, taken_parts}
-use Rattle.act_frames.proofs.Extending.{append_none, append_twice, extending}
+use Rattle.frame_laws.proofs.Extending.{append_none, append_twice, extending}
 use Rattle.link_laws.proofs.LinkEvents.{closed_same, inboxes_change}
 use Rattle.link_laws.proofs.LinkTables.{on_link_elim, or_true, shut_empty, shut_keeps}
 use Rattle.link_laws.proofs.NodeEvents.{see_calm}
 use Rattle.link_laws.proofs.OneRecord.{more_held, no_more_lost, no_more_sent, no_more_taken}
 use Rattle.link_laws.proofs.Places.{after_map, same_node_itself, same_node_true, same_node_turned, set_elim, some_is}
 use Rattle.node_state.specs.Node.{NodeState}
-use Rattle.tx_model.specs.World.{Outcome, Part, World, best_without, does_step, holds_link, inbox_on, inboxes_emptied, is_alive, joins, lost, loses, part_after_loss, part_on, parts_after_loss, place_of, planned, shut_at, with_directory}
+use Rattle.tx_model.specs.World.{Outcome, Part, World, best_map_without, inbox_on, inboxes_emptied, is_alive, join_outcome, loss_outcome, part_after_loss, part_on, parts_after_loss, place_of, plan_outcome_with, step_outcome, with_directory, with_inbox_shut, with_link_held, world_after_loss}
 use Rattle.ignite_types.specs.declared.journal.Rec.TheVariants as note
 use Rattle.ignite_types.specs.declared.journal.TopoEvent.TheVariants as topo
 use Rattle.ignite_types.specs.declared.scenario.Step.TheVariants as step
@@ -45,19 +45,19 @@ abbrev pub planning : ℕ → Option NoLoss → Noted
 planning place refused = record { node = None; rec = note.Planned place refused }
 
 -- the directory goes on to the next step
-pub redirected : (s : Scenario) (ns : List Noted) (w : World) (d : Directory) → d.plan ≡ s.plan → StillNew ns d.members (drop d.done s.plan) → Carries s ns w → Carries s ns (with_directory w d)
+pub redirected : (s : Scenario) (ns : List Noted) (w : World) (d : Directory) → d.plan ≡ s.plan → StillNew ns d.members (drop d.done s.plan) → LinkInvariant s ns w → LinkInvariant s ns (with_directory w d)
 redirected s ns w d plan waiting c = record {
   plan_is = plan;
-  homes_are = c.homes_are;
+  session_nodes_are = c.session_nodes_are;
   apart = c.apart;
   lives = c.lives;
   inboxes_are = c.inboxes_are;
   waiting = waiting;
 }
 
-learned_me : (node : NodeState) (events : List TopoEvent) → (fold learns node events).me ≡ node.me
+learned_me : (node : NodeState) (events : List TopoEvent) → (fold after_learn node events).me ≡ node.me
 learned_me node [] = refl
-learned_me node (e ∷ es) = learned_me (learns node e) es ∙ (learns_kept Extends extending node e).same_me
+learned_me node (e ∷ es) = learned_me (after_learn node e) es ∙ (learns_kept OnlyAppends extending node e).same_me
 
 false_if : (b : Bool) → b ≢ true → b ≡ false
 false_if true other = absurd (other refl)
@@ -66,7 +66,7 @@ false_if false other = refl
 turned_false : (a b : NodeId) → same_node a b ≡ false → same_node b a ≡ false
 turned_false a b other = false_if (same_node b a) (λ t. let back = same_node_turned b a t in absurd (cc (back, other)))
 
-module _ (s : Scenario) (recs : List Noted) (w : World) (c : Carries s recs w) (x : PlanStep) (at_hand : slice_get s.plan w.directory.done ≡ Some x) (short : length s.plan ≤ 64) where
+module _ (s : Scenario) (recs : List Noted) (w : World) (c : LinkInvariant s recs w) (x : PlanStep) (at_hand : slice_get s.plan w.directory.done ≡ Some x) (short : length s.plan ≤ 64) where
   abbrev next_recs : Option NoLoss → List Noted
   next_recs refused = recs ++ planning w.directory.done refused ∷ []
 
@@ -77,7 +77,7 @@ module _ (s : Scenario) (recs : List Noted) (w : World) (c : Carries s recs w) (
   waits_all : StillNew recs w.directory.members (x ∷ rest)
   waits_all = subst (λ (steps : List PlanStep). StillNew recs w.directory.members steps) (drop_next s.plan w.directory.done x at_hand) c.waiting
 
-  rest_is : drop (raised w.directory.done) s.plan ≡ rest
+  rest_is : drop (next_count w.directory.done) s.plan ≡ rest
   rest_is = ap (λ (k : ℕ). drop k s.plan) (raised_is w.directory.done (length s.plan) (slice_get_within s.plan w.directory.done x at_hand) short)
 
   lost_same : (refused : Option NoLoss) (node : NodeId) → is_lost (next_recs refused) node ≡ is_lost recs node
@@ -96,20 +96,20 @@ module _ (s : Scenario) (recs : List Noted) (w : World) (c : Carries s recs w) (
 
   -- a step that leaves all nodes and links alone
   quiet_step : (refused : Option NoLoss) (d : Directory) → d.plan ≡ w.directory.plan → d.members ≡ w.directory.members → d.done ≡ w.directory.done
-      → ((from to : NodeId) → is_link_held s.plan from to (next_recs refused) ≡ is_link_held s.plan from to recs) → StillNew recs w.directory.members rest → Carries s (next_recs refused) (with_directory w (step_done d))
+      → ((from to : NodeId) → is_link_held s.plan from to (next_recs refused) ≡ is_link_held s.plan from to recs) → StillNew recs w.directory.members rest → LinkInvariant s (next_recs refused) (with_directory w (with_step_done d))
   quiet_step refused d plan members done held waiting =
-      redirected s (next_recs refused) w (step_done d) (plan ∙ c.plan_is)
+      redirected s (next_recs refused) w (with_step_done d) (plan ∙ c.plan_is)
       (rw (members, done) (subst (λ (steps : List PlanStep). StillNew (next_recs refused) w.directory.members steps) (sym rest_is) (new_same recs (next_recs refused) w.directory.members rest (lost_same refused) waiting)))
       (same_keeps s recs (next_recs refused) w (say_same refused held) c)
 
   abbrev pub KeepsStep : Outcome → Type 0
-  KeepsStep o = Keeps s recs (noted_in_plan s o.recs) o.world
+  KeepsStep o = LinkStepInvariant s recs (noted_in_plan s o.recs) o.world
 
   quiet_keeps : (refused : Option NoLoss) (d : Directory) → d.plan ≡ w.directory.plan → d.members ≡ w.directory.members → d.done ≡ w.directory.done
-      → ((from to : NodeId) → is_link_held s.plan from to (next_recs refused) ≡ is_link_held s.plan from to recs) → StillNew recs w.directory.members rest → Keeps s recs (planning d.done refused ∷ []) (planned w d refused []).world
+      → ((from to : NodeId) → is_link_held s.plan from to (next_recs refused) ≡ is_link_held s.plan from to recs) → StillNew recs w.directory.members rest → LinkStepInvariant s recs (planning d.done refused ∷ []) (plan_outcome_with w d refused []).world
   quiet_keeps refused d plan members done held waiting = record {
     passes = refl;
-    carried = subst (λ (k : ℕ). Carries s (recs ++ planning k refused ∷ []) (with_directory w (step_done d))) (sym done) (quiet_step refused d plan members done held waiting);
+    carried = subst (λ (k : ℕ). LinkInvariant s (recs ++ planning k refused ∷ []) (with_directory w (with_step_done d))) (sym done) (quiet_step refused d plan members done held waiting);
   }
 
   -- Holding.
@@ -150,7 +150,7 @@ module _ (s : Scenario) (recs : List Noted) (w : World) (c : Carries s recs w) (
       other_inbox a b q.node.me inbox elsewhere (false_if (same_node b q.node.me) (λ t. no_place (place_is w j q b c.apart at_j (same_node_turned b q.node.me t)))) (c.inboxes_are j q inbox at_j has)
 
   held_world : (a b : NodeId) (flag : Bool) (r : Option ℕ) (i : Option Inbox) → ((from to : NodeId) → is_link from to a b ≡ false → is_link_held s.plan from to (next_recs None) ≡ is_link_held s.plan from to recs)
-      → is_link_held s.plan a b (next_recs None) ≡ flag → place_of w b ≡ r → inbox_on w r ≡ i → Carries s (next_recs None) (holds_link w a flag r i)
+      → is_link_held s.plan a b (next_recs None) ≡ flag → place_of w b ≡ r → inbox_on w r ≡ i → LinkInvariant s (next_recs None) (with_link_held w a flag r i)
   held_world a b flag None i elsewhere here place has =
       inboxes_change s recs (next_recs None) w w.inboxes (lost_same None) (λ j q inbox at_j has_j. away_inbox a b j q inbox elsewhere at_j has_j (λ e. absurd (cc (place, e)))) c
   held_world a b flag (Some k) None elsewhere here place has =
@@ -172,11 +172,11 @@ module _ (s : Scenario) (recs : List Noted) (w : World) (c : Carries s recs w) (
       c
 
   hold_keeps : (a b : NodeId) (flag : Bool) → joining x.step ≡ None → ((from to : NodeId) → is_link from to a b ≡ false → is_link_held s.plan from to (next_recs None) ≡ is_link_held s.plan from to recs)
-      → is_link_held s.plan a b (next_recs None) ≡ flag → Keeps s recs (planning w.directory.done None ∷ []) (with_directory (holds_link w a flag (place_of w b) (inbox_on w (place_of w b))) (step_done w.directory))
+      → is_link_held s.plan a b (next_recs None) ≡ flag → LinkStepInvariant s recs (planning w.directory.done None ∷ []) (with_directory (with_link_held w a flag (place_of w b) (inbox_on w (place_of w b))) (with_step_done w.directory))
   hold_keeps a b flag nobody elsewhere here = record {
     passes = refl;
     carried =
-        redirected s (next_recs None) (holds_link w a flag (place_of w b) (inbox_on w (place_of w b))) (step_done w.directory) c.plan_is
+        redirected s (next_recs None) (with_link_held w a flag (place_of w b) (inbox_on w (place_of w b))) (with_step_done w.directory) c.plan_is
         (subst (λ (steps : List PlanStep). StillNew (next_recs None) w.directory.members steps) (sym rest_is) (new_same recs (next_recs None) w.directory.members rest (lost_same None) (none_joins recs w.directory.members x rest nobody waits_all)))
         (held_world a b flag (place_of w b) (inbox_on w (place_of w b)) elsewhere here refl refl);
   }
@@ -184,13 +184,13 @@ module _ (s : Scenario) (recs : List Noted) (w : World) (c : Carries s recs w) (
   link_itself : (a b : NodeId) → is_link a b a b ≡ true
   link_itself a b = ap (λ (r : Bool). r && same_node b b) (same_node_itself a) ∙ same_node_itself b
 
-  holds_keeps : (a b : NodeId) → x.step ≡ step.Hold a b → KeepsStep (does_step w w.directory (step.Hold a b))
+  holds_keeps : (a b : NodeId) → x.step ≡ step.Hold a b → KeepsStep (step_outcome w w.directory (step.Hold a b))
   holds_keeps a b is =
       hold_keeps a b true (ap joining is)
       (λ from to other. held_then from to ∙ ap (λ (st : Step). hold_after from to (is_link_held s.plan from to recs) st) is ∙ ap (λ (r : Bool). is_link_held s.plan from to recs || r) other ∙ or_none (is_link_held s.plan from to recs))
       (held_then a b ∙ ap (λ (st : Step). hold_after a b (is_link_held s.plan a b recs) st) is ∙ ap (λ (r : Bool). is_link_held s.plan a b recs || r) (link_itself a b) ∙ or_true (is_link_held s.plan a b recs))
 
-  releases_keeps : (a b : NodeId) → x.step ≡ step.Release a b → KeepsStep (does_step w w.directory (step.Release a b))
+  releases_keeps : (a b : NodeId) → x.step ≡ step.Release a b → KeepsStep (step_outcome w w.directory (step.Release a b))
   releases_keeps a b is =
       hold_keeps a b false (ap joining is)
       (λ from to other. held_then from to ∙ ap (λ (st : Step). hold_after from to (is_link_held s.plan from to recs) st) is ∙ ap (λ (r : Bool). is_link_held s.plan from to recs && not r) other ∙ and_true (is_link_held s.plan from to recs))
@@ -209,33 +209,33 @@ module _ (s : Scenario) (recs : List Noted) (w : World) (c : Carries s recs w) (
   joins_held : (m : Member) → x.step ≡ step.Join m → (from to : NodeId) → is_link_held s.plan from to (next_recs None) ≡ is_link_held s.plan from to recs
   joins_held m is from to = held_then from to ∙ ap (λ (st : Step). hold_after from to (is_link_held s.plan from to recs) st) is
 
-  joins_there : (m : Member) (k : ℕ) (p : Part) → x.step ≡ step.Join m → place_of w m.node ≡ Some k → slice_get w.parts k ≡ Some p → KeepsStep (joins w m w.directory (Some k) (Some p))
+  joins_there : (m : Member) (k : ℕ) (p : Part) → x.step ≡ step.Join m → place_of w m.node ≡ Some k → slice_get w.parts k ≡ Some p → KeepsStep (join_outcome w m w.directory (Some k) (Some p))
   joins_there m k p is place here =
       let d = w.directory in
       let act = join_act p.node d.events d.clock (topo.Join m) in
       let now : Part = record { node = act.state; life = life.Alive } in
       let next = next_recs None in
       let more = noted_by (Some m.node) act.recs in
-      let w2 = (joins w m d (Some k) (Some p)).world in
-      let seen = acts.sees (learned p.node d.events d.clock) (topo.Join m) in
-      let calm = see_calm act.recs (learned p.node d.events d.clock).read seen.1 in
+      let w2 = (join_outcome w m d (Some k) (Some p)).world in
+      let seen = acts.sees (after_learn_all p.node d.events d.clock) (topo.Join m) in
+      let calm = see_calm act.recs (after_learn_all p.node d.events d.clock).read seen.1 in
       let new = one_joins recs d.members x m rest (ap joining is) waits_all in
       let number : p.node.me ≡ m.node = same_node_true p.node.me m.node (stands_there w k p m.node place here) in
       let joiner : joiner_in (slice_get s.plan d.done) ≡ Some m.node = ap joiner_in at_hand ∙ ap (λ (st : Step). joiner_in (Some (record x { step = st }))) is in
-      let keeps : Keeps s recs (planning d.done None ∷ more) w2 = record {
+      let keeps : LinkStepInvariant s recs (planning d.done None ∷ more) w2 = record {
         passes = each_both (fits s.plan) recs (planning d.done None ∷ []) more refl (calm_fits s.plan next m.node act.recs calm (lost_same None m.node ∙ new.2));
         carried =
-            subst (λ (r : List Noted). Carries s r w2) (append_twice recs (planning d.done None ∷ []) more)
+            subst (λ (r : List Noted). LinkInvariant s r w2) (append_twice recs (planning d.done None ∷ []) more)
             (same_keeps s next (next ++ more) w2 (calm_same s.plan next (Some m.node) act.recs calm)
-            (redirected s next (record w { parts = slice_set w.parts k now }) (step_done (joined d m)) c.plan_is
+            (redirected s next (record w { parts = slice_set w.parts k now }) (with_step_done (directory_after_join d m)) c.plan_is
             (subst (λ (steps : List PlanStep). StillNew next (d.members ++ m ∷ []) steps) (sym rest_is) (new_same recs next (d.members ++ m ∷ []) rest (lost_same None) new.1))
             (parts_keep s next w (slice_set w.parts k now)
             (set_stood w.parts k p now here (sym (seen.0.same_me ∙ learned_me p.node d.events)) (c.lives k p here ∙ ap (λ (n : NodeId). is_lost recs n) number ∙ new.2))
             (same_keeps s recs next w (say_same None (joins_held m is)) c))));
       } in
-      subst (λ (o : Option NodeId). Keeps s recs (planning d.done None ∷ noted_by o act.recs) w2) (sym joiner) keeps
+      subst (λ (o : Option NodeId). LinkStepInvariant s recs (planning d.done None ∷ noted_by o act.recs) w2) (sym joiner) keeps
 
-  joins_in : (m : Member) (r : Option ℕ) (q : Option Part) → x.step ≡ step.Join m → place_of w m.node ≡ r → part_on w r ≡ q → KeepsStep (joins w m w.directory r q)
+  joins_in : (m : Member) (r : Option ℕ) (q : Option Part) → x.step ≡ step.Join m → place_of w m.node ≡ r → part_on w r ≡ q → KeepsStep (join_outcome w m w.directory r q)
   joins_in m None q is place here = quiet_keeps None w.directory refl refl refl (joins_held m is) (one_joins recs w.directory.members x m rest (ap joining is) waits_all).0
   joins_in m (Some k) None is place here = quiet_keeps None w.directory refl refl refl (joins_held m is) (one_joins recs w.directory.members x m rest (ap joining is) waits_all).0
   joins_in m (Some k) (Some p) is place here = joins_there m k p is place here
@@ -266,24 +266,24 @@ module _ (s : Scenario) (recs : List Noted) (w : World) (c : Carries s recs w) (
       ∙ ap (λ (o : Option PlanStep). hold_after_planned from to (is_link_held s.plan from to recs) o) at_hand
       ∙ ap (λ (st : Step). hold_after from to (is_link_held s.plan from to recs) st) is
 
-  gone_inbox : (id : NodeId) (b : Inbox) → x.step ≡ step.Lose id → InboxCarries s.plan recs id b → InboxCarries s.plan (loss_recs id) id (shut (emptied b id))
+  gone_inbox : (id : NodeId) (b : Inbox) → x.step ≡ step.Lose id → InboxCarries s.plan recs id b → InboxCarries s.plan (loss_recs id) id (inbox_shut (without_messages_of b id))
   gone_inbox id b is before = record {
     closed_is = sym (lost_itself id);
     links_are = λ y l has. record {
       held_is =
-          shut_keeps (emptied b id) y (λ (k : Link). k.held ≡ is_link_held s.plan y id (loss_recs id)) (λ k e. e)
+          shut_keeps (without_messages_of b id) y (λ (k : Link). k.held ≡ is_link_held s.plan y id (loss_recs id)) (λ k e. e)
           (λ k at. on_link_elim b id (λ (link : Link). record link { messages = [] }) (λ (z : NodeId) (n : Link). n.held ≡ is_link_held s.plan z id (loss_recs id))
           (λ old some. (before.links_are id old some).held_is ∙ sym (loss_held id is id id))
           (λ z n other some. (before.links_are z n some).held_is ∙ sym (loss_held id is z id))
           y k at)
           l has;
-      sender_lost = λ e. shut_empty (emptied b id) y l has;
-      addressee_lost = λ e. shut_empty (emptied b id) y l has;
+      sender_lost = λ e. shut_empty (without_messages_of b id) y l has;
+      addressee_lost = λ e. shut_empty (without_messages_of b id) y l has;
       in_order = λ e f. let g = lost_itself id in absurd (cc (f, g));
     };
   }
 
-  kept_inbox : (id t : NodeId) (b : Inbox) → x.step ≡ step.Lose id → same_node id t ≡ false → InboxCarries s.plan recs t b → InboxCarries s.plan (loss_recs id) t (emptied b id)
+  kept_inbox : (id t : NodeId) (b : Inbox) → x.step ≡ step.Lose id → same_node id t ≡ false → InboxCarries s.plan recs t b → InboxCarries s.plan (loss_recs id) t (without_messages_of b id)
   kept_inbox id t b is other before = record {
     closed_is = closed_same b id (λ (link : Link). record link { messages = [] }) (link_of b id) ∙ before.closed_is ∙ sym (lost_other id t other);
     links_are = on_link_elim b id (λ (link : Link). record link { messages = [] }) (λ (z : NodeId) (n : Link). LinkCarries s.plan (loss_recs id) z t n)
@@ -297,21 +297,21 @@ module _ (s : Scenario) (recs : List Noted) (w : World) (c : Carries s recs w) (
   }
 
   unlinked_elim : (id : NodeId) (r : Option ℕ) (i : Option Inbox) → option_and_then (slice_get (inboxes_emptied id w.inboxes)) r ≡ i → (P : ℕ → Inbox → Type 0)
-      → ((j : ℕ) (b : Inbox) → slice_get w.inboxes j ≡ Some b → r ≢ Some j → P j (emptied b id)) → ((j : ℕ) (b : Inbox) → slice_get w.inboxes j ≡ Some b → r ≡ Some j → P j (shut (emptied b id)))
-      → (j : ℕ) (b : Inbox) → slice_get (shut_at (record w { inboxes = inboxes_emptied id w.inboxes }) r i).inboxes j ≡ Some b → P j b
+      → ((j : ℕ) (b : Inbox) → slice_get w.inboxes j ≡ Some b → r ≢ Some j → P j (without_messages_of b id)) → ((j : ℕ) (b : Inbox) → slice_get w.inboxes j ≡ Some b → r ≡ Some j → P j (inbox_shut (without_messages_of b id)))
+      → (j : ℕ) (b : Inbox) → slice_get (with_inbox_shut (record w { inboxes = inboxes_emptied id w.inboxes }) r i).inboxes j ≡ Some b → P j b
   unlinked_elim id None i at P stays goes j b has =
-      let a = after_map (λ (inbox : Inbox). emptied inbox id) w.inboxes j b has in
+      let a = after_map (λ (inbox : Inbox). without_messages_of inbox id) w.inboxes j b has in
       subst (λ (y : Inbox). P j y) a.2 (stays j a.0 a.1 (λ e. absurd (cc (e))))
   unlinked_elim id (Some k) None at P stays goes j b has =
-      let a = after_map (λ (inbox : Inbox). emptied inbox id) w.inboxes j b has in
+      let a = after_map (λ (inbox : Inbox). without_messages_of inbox id) w.inboxes j b has in
       subst (λ (y : Inbox). P j y) a.2 (stays j a.0 a.1 (λ e.
       let gone = subst (λ (n : ℕ). slice_get (inboxes_emptied id w.inboxes) n ≡ None) (some_is k j e) at in
       absurd (cc (gone, has))))
   unlinked_elim id (Some k) (Some e) at P stays goes j b has =
-      set_elim (inboxes_emptied id w.inboxes) k (shut e) P
-      (let a = after_map (λ (inbox : Inbox). emptied inbox id) w.inboxes k e at in subst (λ (y : Inbox). P k (shut y)) a.2 (goes k a.0 a.1 refl))
+      set_elim (inboxes_emptied id w.inboxes) k (inbox_shut e) P
+      (let a = after_map (λ (inbox : Inbox). without_messages_of inbox id) w.inboxes k e at in subst (λ (y : Inbox). P k (inbox_shut y)) a.2 (goes k a.0 a.1 refl))
       (λ n y other at_n.
-      let a = after_map (λ (inbox : Inbox). emptied inbox id) w.inboxes n y at_n in
+      let a = after_map (λ (inbox : Inbox). without_messages_of inbox id) w.inboxes n y at_n in
       subst (λ (z : Inbox). P n z) a.2 (stays n a.0 a.1 (λ g. other (sym (some_is k n g)))))
       j b has
 
@@ -337,13 +337,13 @@ module _ (s : Scenario) (recs : List Noted) (w : World) (c : Carries s recs w) (
             ]
       ] refl
 
-  shut_as : (e : World) (r : Option ℕ) (i : Option Inbox) → record e { inboxes = (shut_at e r i).inboxes } ≡ shut_at e r i
+  shut_as : (e : World) (r : Option ℕ) (i : Option Inbox) → record e { inboxes = (with_inbox_shut e r i).inboxes } ≡ with_inbox_shut e r i
   shut_as e None i = refl
   shut_as e (Some k) None = refl
   shut_as e (Some k) (Some b) = refl
 
   lost_inboxes : (id : NodeId) → x.step ≡ step.Lose id → let e : World = record w { inboxes = inboxes_emptied id w.inboxes } in
-      (j : ℕ) (b : Inbox) → slice_get (shut_at e (place_of w id) (inbox_on e (place_of w id))).inboxes j ≡ Some b → (q : Part) → slice_get w.parts j ≡ Some q → InboxCarries s.plan (loss_recs id) q.node.me b
+      (j : ℕ) (b : Inbox) → slice_get (with_inbox_shut e (place_of w id) (inbox_on e (place_of w id))).inboxes j ≡ Some b → (q : Part) → slice_get w.parts j ≡ Some q → InboxCarries s.plan (loss_recs id) q.node.me b
   lost_inboxes id is =
       let e : World = record w { inboxes = inboxes_emptied id w.inboxes } in
       unlinked_elim id (place_of w id) (inbox_on e (place_of w id)) refl (λ (j : ℕ) (b : Inbox). (q : Part) → slice_get w.parts j ≡ Some q → InboxCarries s.plan (loss_recs id) q.node.me b)
@@ -351,21 +351,21 @@ module _ (s : Scenario) (recs : List Noted) (w : World) (c : Carries s recs w) (
       kept_inbox id q.node.me b is (false_if (same_node id q.node.me) (λ t. no_place (place_is w j q id c.apart at_j (same_node_turned id q.node.me t)))) (c.inboxes_are j q b at_j has))
       (λ j b has place q at_j.
       let same : q.node.me ≡ id = same_node_true q.node.me id (stands_there w j q id place at_j) in
-      subst (λ (n : NodeId). InboxCarries s.plan (loss_recs id) n (shut (emptied b id))) (sym same)
+      subst (λ (n : NodeId). InboxCarries s.plan (loss_recs id) n (inbox_shut (without_messages_of b id))) (sym same)
       (gone_inbox id b is (subst (λ (n : NodeId). InboxCarries s.plan recs n b) same (c.inboxes_are j q b at_j has))))
 
-  lost_carries : (id : NodeId) → x.step ≡ step.Lose id → is_member w.directory.members id ≡ true → Carries s (loss_recs id) (with_directory (lost w id (place_of w id)) (step_done (appended w.directory (topo.Left id))))
+  lost_carries : (id : NodeId) → x.step ≡ step.Lose id → is_member w.directory.members id ≡ true → LinkInvariant s (loss_recs id) (with_directory (world_after_loss w id (place_of w id)) (with_step_done (with_event w.directory (topo.Left id))))
   lost_carries id is member =
       let e : World = record w { inboxes = inboxes_emptied id w.inboxes } in
       let r = place_of w id in
       let i = inbox_on e r in
-      let d = step_done (appended w.directory (topo.Left id)) in
-      let boxes = (shut_at e r i).inboxes in
+      let d = with_step_done (with_event w.directory (topo.Left id)) in
+      let boxes = (with_inbox_shut e r i).inboxes in
       let old = λ (k : ℕ) (p : Part) (at : slice_get (parts_after_loss id w.parts) k ≡ Some p). after_map (part_after_loss id) w.parts k p at in
       let me = λ (q p : Part) (same : part_after_loss id q ≡ p). (part_me id q ∙ ap (λ (y : Part). y.node.me) same) in
-      let made : Carries s (loss_recs id) (with_directory (record e { inboxes = boxes; parts = parts_after_loss id w.parts }) d) = record {
+      let made : LinkInvariant s (loss_recs id) (with_directory (record e { inboxes = boxes; parts = parts_after_loss id w.parts }) d) = record {
         plan_is = c.plan_is;
-        homes_are = c.homes_are;
+        session_nodes_are = c.session_nodes_are;
         apart = λ j k p q at_j at_k same.
             let a = old j p at_j in
             let b = old k q at_k in
@@ -381,33 +381,33 @@ module _ (s : Scenario) (recs : List Noted) (w : World) (c : Carries s recs w) (
             subst (λ (steps : List PlanStep). StillNew (loss_recs id) (without_node id w.directory.members) steps) (sym rest_is)
             (new_after_loss recs (loss_recs id) w.directory.members id rest (lost_then id) member (none_joins recs w.directory.members x rest (ap joining is) waits_all));
       } in
-      subst (λ (o : World). Carries s (loss_recs id) (with_directory (record o { parts = parts_after_loss id o.parts }) d)) (shut_as e r i) made
+      subst (λ (o : World). LinkInvariant s (loss_recs id) (with_directory (record o { parts = parts_after_loss id o.parts }) d)) (shut_as e r i) made
 
   refused_else : (b : Bool) (o : Option NoLoss) (n : NoLoss) → (if b then o else Some n) ≡ None → b ≡ true
   refused_else true o n e = refl
   refused_else false o n e = absurd (cc)
 
-  loses_by : (id : NodeId) (o : Option NoLoss) → x.step ≡ step.Lose id → (o ≡ None → is_member w.directory.members id ≡ true) → KeepsStep (loses w id w.directory o)
+  loses_by : (id : NodeId) (o : Option NoLoss) → x.step ≡ step.Lose id → (o ≡ None → is_member w.directory.members id ≡ true) → KeepsStep (loss_outcome w id w.directory o)
   loses_by id (Some n) is member =
       quiet_keeps (Some n) w.directory refl refl refl (λ from to. more_held s.plan from to recs (planning w.directory.done (Some n))) (none_joins recs w.directory.members x rest (ap joining is) waits_all)
   loses_by id None is member =
-      let w2 = with_directory (lost w id (place_of w id)) (step_done (appended w.directory (topo.Left id))) in
+      let w2 = with_directory (world_after_loss w id (place_of w id)) (with_step_done (with_event w.directory (topo.Left id))) in
       let joiner : joiner_in (slice_get s.plan w.directory.done) ≡ None = ap joiner_in at_hand ∙ ap (λ (st : Step). joiner_in (Some (record x { step = st }))) is in
-      let keeps : Keeps s recs (planning w.directory.done None ∷ noted_by None (note.Lost id ∷ [])) w2 = record { passes = refl; carried = lost_carries id is (member refl) } in
-      subst (λ (o : Option NodeId). Keeps s recs (planning w.directory.done None ∷ noted_by o (note.Lost id ∷ [])) w2) (sym joiner) keeps
+      let keeps : LinkStepInvariant s recs (planning w.directory.done None ∷ noted_by None (note.Lost id ∷ [])) w2 = record { passes = refl; carried = lost_carries id is (member refl) } in
+      subst (λ (o : Option NodeId). LinkStepInvariant s recs (planning w.directory.done None ∷ noted_by o (note.Lost id ∷ [])) w2) (sym joiner) keeps
 
-  loses_keeps : (id : NodeId) (best : Option PartMap) → x.step ≡ step.Lose id → KeepsStep (loses w id w.directory (loss_refused w.directory id best))
-  loses_keeps id best is = loses_by id (loss_refused w.directory id best) is (λ e. refused_else (is_member w.directory.members id) _ _ e)
+  loses_keeps : (id : NodeId) (best : Option PartMap) → x.step ≡ step.Lose id → KeepsStep (loss_outcome w id w.directory (refusal_of_loss w.directory id best))
+  loses_keeps id best is = loses_by id (refusal_of_loss w.directory id best) is (λ e. refused_else (is_member w.directory.members id) _ _ e)
 
   -- All steps.
 
-  caches_keep : (event : TopoEvent) → joining x.step ≡ None → (appended w.directory event).members ≡ w.directory.members → ((from to : NodeId) → hold_after from to (is_link_held s.plan from to recs) x.step ≡ is_link_held s.plan from to recs)
-      → KeepsStep (planned w (appended w.directory event) None [])
-  caches_keep event nobody members held = quiet_keeps None (appended w.directory event) refl members refl (λ from to. held_then from to ∙ held from to) (none_joins recs w.directory.members x rest nobody waits_all)
+  caches_keep : (event : TopoEvent) → joining x.step ≡ None → (with_event w.directory event).members ≡ w.directory.members → ((from to : NodeId) → hold_after from to (is_link_held s.plan from to recs) x.step ≡ is_link_held s.plan from to recs)
+      → KeepsStep (plan_outcome_with w (with_event w.directory event) None [])
+  caches_keep event nobody members held = quiet_keeps None (with_event w.directory event) refl members refl (λ from to. held_then from to ∙ held from to) (none_joins recs w.directory.members x rest nobody waits_all)
 
-  pub step_keeps : (st : Step) → x.step ≡ st → KeepsStep (does_step w w.directory st)
+  pub step_keeps : (st : Step) → x.step ≡ st → KeepsStep (step_outcome w w.directory st)
   step_keeps (step.Join m) is = joins_in m (place_of w m.node) (part_on w (place_of w m.node)) is refl refl
-  step_keeps (step.Lose id) is = loses_keeps id (best_without w id) is
+  step_keeps (step.Lose id) is = loses_keeps id (best_map_without w id) is
   step_keeps (step.Hold a b) is = holds_keeps a b is
   step_keeps (step.Release a b) is = releases_keeps a b is
   step_keeps (step.Start cache) is = caches_keep (topo.Start cache) (ap joining is) refl (λ from to. ap (λ (st : Step). hold_after from to (is_link_held s.plan from to recs) st) is)

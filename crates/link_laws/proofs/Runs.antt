@@ -5,7 +5,7 @@ use Rattle.std.specs.Option.{option_and_then}
 use Rattle.std.specs.Ordering.{nat_cmp}
 use Rattle.std.specs.Prelude.{IsTrue, nat_le, slice_get}
 use Rattle.std.proofs.lemmas.Bool.Decides.{nat_tests}
-use Rattle.base_words.specs.Directory.{ticked}
+use Rattle.part_model.specs.Directory.{at_moment}
 use Rattle.ignite_types.specs.Good.{are_distinct, good, good_caches, good_format, good_nodes, good_plan, good_sessions, is_within, members}
 use Rattle.ignite_types.specs.Good as scenarios
 use Rattle.ignite_types.specs.declared.journal.Event.{Event}
@@ -17,7 +17,7 @@ use Rattle.ignite_types.specs.declared.scenario.PlanStep.{PlanStep}
 use Rattle.ignite_types.specs.declared.scenario.Scenario.{Scenario}
 use Rattle.journal_statements.specs.LinkRecords.{links}
 use Rattle.journal_statements.specs.Noted.{Noted, actor, each_from, noted_by, noted_for, noted_in, noted_in_plan}
-use Rattle.link_laws.specs.Carrying.{Carries, Keeps, fits, is_gone}
+use Rattle.link_laws.specs.Carrying.{LinkInvariant, LinkStepInvariant, fits, is_gone}
 use Rattle.link_laws.proofs.Frames.{at_live, directory_keeps, live_is, parts_keep, same_keeps}
 use Rattle.link_laws.proofs.Journals.{calm_same, each_both, first_rest}
 use Rattle.link_laws.proofs.LinkEvents.{act_keeps, send_keeps}
@@ -26,9 +26,9 @@ use Rattle.link_laws.proofs.Openings.{opening_carries}
 use Rattle.link_laws.proofs.Places.{after_map, some_is}
 use Rattle.link_laws.proofs.PlanEvents.{step_keeps}
 use Rattle.ordered_table.specs.Entries.{at}
-use Rattle.tx_model.specs.Opening.{homes_from, opening}
+use Rattle.tx_model.specs.Opening.{opening, session_nodes_from}
 use Rattle.tx_model.specs.Runs.{AreSteps, IsLegal, IsStep}
-use Rattle.tx_model.specs.World.{Part, World, answers_at, breaks, calls_at, can_be, can_take, if_alive, inbox_on, is_alive, is_quiet, is_tick, least_moment, live_place, outcome, part_at_moment, part_on, parts_at_moment, plans, takes_at, ticks}
+use Rattle.tx_model.specs.World.{Part, World, act_outcome, answer_outcome, call_outcome, can_be, can_take, if_alive, inbox_on, is_alive, is_quiet, is_tick, least_moment, live_place, memory_outcome, outcome, part_at_moment, part_on, parts_at_moment, plan_outcome, tick_outcome}
 use Rattle.ignite_types.specs.declared.journal.Event.TheVariants as event
 use Rattle.ignite_types.specs.declared.journal.Rec.TheVariants as note
 
@@ -52,13 +52,13 @@ moment_stood to p =
       | false ↦ (refl, refl)
     ]
 
-module _ (s : Scenario) (recs : List Noted) (w : World) (c : Carries s recs w) where
+module _ (s : Scenario) (recs : List Noted) (w : World) (c : LinkInvariant s recs w) where
   take_event : (id from : NodeId) → can_take from (inbox_on w (live_place w id)) ≡ true → KeepsAt s recs (Some id) (outcome w (event.Act id from))
   take_event id from can =
-      at_live w id (λ r q. can_take from (inbox_on w r) ≡ true → KeepsAt s recs (Some id) (takes_at w from r q (inbox_on w r)))
+      at_live w id (λ r q. can_take from (inbox_on w r) ≡ true → KeepsAt s recs (Some id) (act_outcome w from r q (inbox_on w r)))
       (λ e. stays s recs w c (Some id)) (λ k e. stays s recs w c (Some id))
       (λ k p place is same alive.
-      elim (slice_get w.inboxes k) as (λ i. slice_get w.inboxes k ≡ i → can_take from i ≡ true → KeepsAt s recs (Some id) (takes_at w from (Some k) (Some p) i)) [
+      elim (slice_get w.inboxes k) as (λ i. slice_get w.inboxes k ≡ i → can_take from i ≡ true → KeepsAt s recs (Some id) (act_outcome w from (Some k) (Some p) i)) [
         | None ↦ λ g e. stays s recs w c (Some id)
         | Some b ↦ λ g e. act_keeps s recs w c id from k p b is g same alive e
       ] refl)
@@ -66,10 +66,10 @@ module _ (s : Scenario) (recs : List Noted) (w : World) (c : Carries s recs w) w
 
   memory_event : (id : NodeId) → is_some (live_place w id) ≡ true → KeepsAt s recs (Some id) (outcome w (event.Memory id))
   memory_event id can =
-      (elim (live_place w id) as (λ r. live_place w id ≡ r → is_some r ≡ true → KeepsAt s recs (Some id) (breaks w r (part_on w r))) [
+      (elim (live_place w id) as (λ r. live_place w id ≡ r → is_some r ≡ true → KeepsAt s recs (Some id) (memory_outcome w r (part_on w r))) [
         | None ↦ λ g e. absurd (cc)
         | Some k ↦ λ g e.
-            elim (slice_get w.parts k) as (λ q. slice_get w.parts k ≡ q → KeepsAt s recs (Some id) (breaks w (Some k) q)) [
+            elim (slice_get w.parts k) as (λ q. slice_get w.parts k ≡ q → KeepsAt s recs (Some id) (memory_outcome w (Some k) q)) [
               | None ↦ λ none. absurd (someone w.parts _ k g none)
               | Some p ↦ λ is. let both = live_is w id k p g is in memory_keeps s recs w c id k p is both.0 both.1
             ] refl
@@ -77,44 +77,44 @@ module _ (s : Scenario) (recs : List Noted) (w : World) (c : Carries s recs w) w
 
   tick_event : KeepsAt s recs None (outcome w event.Tick)
   tick_event =
-      elim (least_moment w) as (λ o. KeepsAt s recs None (ticks w o)) [
+      elim (least_moment w) as (λ o. KeepsAt s recs None (tick_outcome w o)) [
         | None ↦ stays s recs w c None
         | Some to ↦ record {
           passes = refl;
           carried =
-              same_keeps s recs (recs ++ noted_by None (note.Tick to ∷ [])) (ticks w (Some to)).world (calm_same s.plan recs None (note.Tick to ∷ []) refl)
-              (parts_keep s recs (record w { directory = ticked w.directory to }) (parts_at_moment to w.parts)
+              same_keeps s recs (recs ++ noted_by None (note.Tick to ∷ [])) (tick_outcome w (Some to)).world (calm_same s.plan recs None (note.Tick to ∷ []) refl)
+              (parts_keep s recs (record w { directory = at_moment w.directory to }) (parts_at_moment to w.parts)
               (λ k p at.
               let a = after_map (part_at_moment to) w.parts k p at in
               let same = moment_stood to a.0 in
               record { part = a.0; stands = a.1; same_me = same.0 ∙ ap (λ (y : Part). y.node.me) a.2; same_life = same.1 ∙ ap (λ (y : Part). is_gone y.life) a.2 })
-              (directory_keeps s recs w (ticked w.directory to) refl refl refl c));
+              (directory_keeps s recs w (at_moment w.directory to) refl refl refl c));
         }
       ]
 
-  plan_event : length s.plan ≤ 64 → Keeps s recs (noted_in_plan s (outcome w event.Plan).recs) (outcome w event.Plan).world
+  plan_event : length s.plan ≤ 64 → LinkStepInvariant s recs (noted_in_plan s (outcome w event.Plan).recs) (outcome w event.Plan).world
   plan_event short =
-      elim (slice_get w.directory.plan w.directory.done) as (λ o. slice_get w.directory.plan w.directory.done ≡ o → Keeps s recs (noted_in_plan s (plans w o).recs) (plans w o).world) [
+      elim (slice_get w.directory.plan w.directory.done) as (λ o. slice_get w.directory.plan w.directory.done ≡ o → LinkStepInvariant s recs (noted_in_plan s (plan_outcome w o).recs) (plan_outcome w o).world) [
         | None ↦ λ none. stays s recs w c None
         | Some x ↦ λ some.
             step_keeps s recs w c x (subst (λ (steps : List PlanStep). slice_get steps w.directory.done ≡ Some x) c.plan_is some) short x.step refl
       ] refl
 
-  answer_event : (session : ℕ) → KeepsAt s recs (at nat_cmp w.homes session) (outcome w (event.Answer session))
+  answer_event : (session : ℕ) → KeepsAt s recs (at nat_cmp w.session_nodes session) (outcome w (event.Answer session))
   answer_event session =
-      elim (at nat_cmp w.homes session) as (λ h. KeepsAt s recs h (let place = option_and_then (live_place w) h in answers_at w session place (part_on w place))) [
+      elim (at nat_cmp w.session_nodes session) as (λ h. KeepsAt s recs h (let place = option_and_then (live_place w) h in answer_outcome w session place (part_on w place))) [
         | None ↦ stays s recs w c None
         | Some id ↦ answer_keeps s recs w c session id
       ]
 
-  call_event : (session : ℕ) → KeepsAt s recs (at nat_cmp w.homes session) (outcome w (event.Call session))
+  call_event : (session : ℕ) → KeepsAt s recs (at nat_cmp w.session_nodes session) (outcome w (event.Call session))
   call_event session =
-      elim (at nat_cmp w.homes session) as (λ h. KeepsAt s recs h (let place = option_and_then (live_place w) h in calls_at w session place (part_on w place))) [
+      elim (at nat_cmp w.session_nodes session) as (λ h. KeepsAt s recs h (let place = option_and_then (live_place w) h in call_outcome w session place (part_on w place))) [
         | None ↦ stays s recs w c None
         | Some id ↦ call_keeps s recs w c session id
       ]
 
-  pub event_keeps : length s.plan ≤ 64 → (e : Event) → can_be w e ≡ true → Keeps s recs (noted_for s (actor w.homes e) e (outcome w e).recs) (outcome w e).world
+  pub event_keeps : length s.plan ≤ 64 → (e : Event) → can_be w e ≡ true → LinkStepInvariant s recs (noted_for s (actor w.session_nodes e) e (outcome w e).recs) (outcome w e).world
   event_keeps short (event.Answer session) can = answer_event session
   event_keeps short (event.Act id from) can = take_event id from can
   event_keeps short (event.Send id) can = send_keeps s recs w c id
@@ -127,31 +127,31 @@ module _ (s : Scenario) (recs : List Noted) (w : World) (c : Carries s recs w) w
   event_keeps short (event.Memory id) can = memory_event id can
 
 -- a group of the run
-group_keeps : (s : Scenario) (recs : List Noted) (w : World) (g : Group) → length s.plan ≤ 64 → Carries s recs w → IsStep w g → Keeps s recs (noted_in s (homes_from 1 [] s.sessions) g) (outcome w g.event).world
+group_keeps : (s : Scenario) (recs : List Noted) (w : World) (g : Group) → length s.plan ≤ 64 → LinkInvariant s recs w → IsStep w g → LinkStepInvariant s recs (noted_in s (session_nodes_from 1 [] s.sessions) g) (outcome w g.event).world
 group_keeps s recs w g short c step =
     let can = first_rest (not w.broken && can_be w g.event) (not (is_tick g.event) || is_quiet w) step.possible_event in
-    subst (λ (rs : List Rec). Keeps s recs (noted_for s (actor (homes_from 1 [] s.sessions) g.event) g.event rs) (outcome w g.event).world) (sym step.same_records)
-    (subst (λ (homes : List (ℕ × NodeId)). Keeps s recs (noted_for s (actor homes g.event) g.event (outcome w g.event).recs) (outcome w g.event).world) c.homes_are
+    subst (λ (rs : List Rec). LinkStepInvariant s recs (noted_for s (actor (session_nodes_from 1 [] s.sessions) g.event) g.event rs) (outcome w g.event).world) (sym step.same_records)
+    (subst (λ (session_nodes : List (ℕ × NodeId)). LinkStepInvariant s recs (noted_for s (actor session_nodes g.event) g.event (outcome w g.event).recs) (outcome w g.event).world) c.session_nodes_are
     (event_keeps s recs w c short g.event (first_rest (not w.broken) (can_be w g.event) can.0).1))
 
-run_keeps : (s : Scenario) (recs : List Noted) (w : World) (gs : List Group) → length s.plan ≤ 64 → Carries s recs w → AreSteps w gs → each_from (fits s.plan) recs (flat_map (noted_in s (homes_from 1 [] s.sessions)) gs) ≡ true
+run_keeps : (s : Scenario) (recs : List Noted) (w : World) (gs : List Group) → length s.plan ≤ 64 → LinkInvariant s recs w → AreSteps w gs → each_from (fits s.plan) recs (flat_map (noted_in s (session_nodes_from 1 [] s.sessions)) gs) ≡ true
 run_keeps s recs w [] short c steps = refl
 run_keeps s recs w (g ∷ gs) short c steps =
-    let homes = homes_from 1 [] s.sessions in
+    let session_nodes = session_nodes_from 1 [] s.sessions in
     let keeps = group_keeps s recs w g short c steps.0 in
-    each_both (fits s.plan) recs (noted_in s homes g) (flat_map (noted_in s homes) gs) keeps.passes
-    (run_keeps s (recs ++ noted_in s homes g) (outcome w g.event).world gs short keeps.carried steps.1)
+    each_both (fits s.plan) recs (noted_in s session_nodes g) (flat_map (noted_in s session_nodes) gs) keeps.passes
+    (run_keeps s (recs ++ noted_in s session_nodes g) (outcome w g.event).world gs short keeps.carried steps.1)
 
 -- In every legal run of a scenario in which no node number stands twice, and whose plan is no longer than a scenario's text allows.
-pub links_keep : (j : Journal) → are_distinct scenarios.same_node (members j.scenario) ≡ true → length j.scenario.plan ≤ 64 → IsLegal j → links j ≡ true
+pub links_keep : (j : Journal) → are_distinct scenarios.same_member_node (members j.scenario) ≡ true → length j.scenario.plan ≤ 64 → IsLegal j → links j ≡ true
 links_keep j apart short legal = run_keeps j.scenario [] (opening j.scenario) j.groups short (opening_carries j.scenario apart) legal.steps
 
 -- a good scenario is one of these
-nodes_apart : (s : Scenario) → good_nodes s ≡ true → are_distinct scenarios.same_node (members s) ≡ true
+nodes_apart : (s : Scenario) → good_nodes s ≡ true → are_distinct scenarios.same_member_node (members s) ≡ true
 nodes_apart s nodes =
-    let three = first_rest (list_all (λ member. is_within 1 99 member.node.0) (members s) && are_distinct scenarios.same_node (members s) && nat_le (length (members s)) 16) (list_any (λ member. member.server) s.nodes) nodes in
-    let two = first_rest (list_all (λ member. is_within 1 99 member.node.0) (members s) && are_distinct scenarios.same_node (members s)) (nat_le (length (members s)) 16) three.0 in
-    (first_rest (list_all (λ member. is_within 1 99 member.node.0) (members s)) (are_distinct scenarios.same_node (members s)) two.0).1
+    let three = first_rest (list_all (λ member. is_within 1 99 member.node.0) (members s) && are_distinct scenarios.same_member_node (members s) && nat_le (length (members s)) 16) (list_any (λ member. member.server) s.nodes) nodes in
+    let two = first_rest (list_all (λ member. is_within 1 99 member.node.0) (members s) && are_distinct scenarios.same_member_node (members s)) (nat_le (length (members s)) 16) three.0 in
+    (first_rest (list_all (λ member. is_within 1 99 member.node.0) (members s)) (are_distinct scenarios.same_member_node (members s)) two.0).1
 
 first_of_five : (a b c d e : Bool) → (a && b && c && d && e) ≡ true → a ≡ true
 first_of_five true b c d e all = refl

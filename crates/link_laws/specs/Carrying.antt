@@ -1,8 +1,8 @@
 -- What the world's links carry, told by the records so far: the invariant of the law of links.
 use Rattle.std.specs.List.{list_all}
 use Rattle.std.specs.Prelude.{Bool, Some, [], drop, false, filter_map, not, slice_get, true, ℕ, ◌&&◌, ◌++◌, ◌≡◌}
-use Rattle.base_words.specs.Links.{Inbox, Link, link_of}
-use Rattle.base_words.specs.NextMap.{is_member}
+use Rattle.part_model.specs.Links.{Inbox, Link, link_of}
+use Rattle.part_model.specs.NextMap.{is_member}
 use Rattle.ignite_types.specs.Good.{are_distinct, joining}
 use Rattle.ignite_types.specs.Good as good
 use Rattle.ignite_types.specs.Names.{same_node}
@@ -15,7 +15,7 @@ use Rattle.ignite_types.specs.declared.scenario.Scenario.{Scenario}
 use Rattle.journal_statements.specs.LinkRecords.{is_link_held, linked_at, sent_on, taken_on}
 use Rattle.journal_statements.specs.Noted.{Noted, each_from, is_lost}
 use Rattle.node_state.specs.declared.life.Life.{Life}
-use Rattle.tx_model.specs.Opening.{homes_from}
+use Rattle.tx_model.specs.Opening.{session_nodes_from}
 use Rattle.tx_model.specs.World.{Part, World}
 use Rattle.ignite_types.specs.declared.journal.Rec.TheVariants as note
 use Rattle.node_state.specs.declared.life.Life.TheVariants as life
@@ -56,8 +56,8 @@ pub record InboxCarries (plan : List PlanStep) (recs : List Noted) (to : NodeId)
   pub links_are : (from : NodeId) (l : Link) → link_of b from ≡ Some l → LinkCarries plan recs from to l
 
 -- a node's number stands at one place only
-abbrev pub Apart : List Part → Type 0
-Apart parts = (j k : ℕ) (p q : Part) → slice_get parts j ≡ Some p → slice_get parts k ≡ Some q → same_node p.node.me q.node.me ≡ true → j ≡ k
+abbrev pub NodesApart : List Part → Type 0
+NodesApart parts = (j k : ℕ) (p q : Part) → slice_get parts j ≡ Some p → slice_get parts k ≡ Some q → same_node p.node.me q.node.me ≡ true → j ≡ k
 
 -- those who join by these steps
 abbrev pub joiners : List PlanStep → List Member
@@ -68,22 +68,22 @@ is_new recs members m = not (is_lost recs m.node) && not (is_member members m.no
 
 -- those who join by the steps to come were never in
 pub record StillNew (recs : List Noted) (members : List Member) (steps : List PlanStep) : Type 0 where
-  pub are_apart : are_distinct good.same_node (joiners steps) ≡ true
+  pub are_apart : are_distinct good.same_member_node (joiners steps) ≡ true
   pub are_new : list_all (is_new recs members) (joiners steps) ≡ true
 
 -- the world is as the records say
-pub record Carries (s : Scenario) (recs : List Noted) (w : World) : Type 0 where
+pub record LinkInvariant (s : Scenario) (recs : List Noted) (w : World) : Type 0 where
   pub plan_is : w.directory.plan ≡ s.plan
-  pub homes_are : w.homes ≡ homes_from 1 [] s.sessions
-  pub apart : Apart w.parts
+  pub session_nodes_are : w.session_nodes ≡ session_nodes_from 1 [] s.sessions
+  pub apart : NodesApart w.parts
   pub lives : (k : ℕ) (p : Part) → slice_get w.parts k ≡ Some p → is_gone p.life ≡ is_lost recs p.node.me
   pub inboxes_are : (k : ℕ) (p : Part) (b : Inbox) → slice_get w.parts k ≡ Some p → slice_get w.inboxes k ≡ Some b → InboxCarries s.plan recs p.node.me b
   pub waiting : StillNew recs w.directory.members (drop w.directory.done s.plan)
 
 -- further records pass the test, and the world behind them is as all records say
-pub record Keeps (s : Scenario) (recs more : List Noted) (w : World) : Type 0 where
+pub record LinkStepInvariant (s : Scenario) (recs more : List Noted) (w : World) : Type 0 where
   pub passes : each_from (fits s.plan) recs more ≡ true
-  pub carried : Carries s (recs ++ more) w
+  pub carried : LinkInvariant s (recs ++ more) w
 
 -- a part stood here before with the same number, lost or not as it is now
 pub record Stood (parts : List Part) (k : ℕ) (now : Part) : Type 0 where

@@ -4,8 +4,8 @@ use Rattle.std.specs.Cmp.{IsTotalOrder, on_total}
 use Rattle.std.specs.Ordering.{match_ordering}
 use Rattle.std.specs.declared.cmp.Ordering.TheVariants.{Less, Equal, Greater}
 use Rattle.std.proofs.lemmas.Cmp.{nat_cmp_total, ranked}
-use Rattle.base_words.specs.Links.{Inbox, Link, emptied, emptied_each, link_of, on_link}
-use Rattle.base_words.specs.Tables.{keys_in}
+use Rattle.part_model.specs.Links.{Inbox, Link, link_of, on_link, without_messages_of, without_messages_of_each}
+use Rattle.part_model.specs.Tables.{keys_in}
 use Rattle.ignite_types.specs.declared.names.NodeId.{NodeId}
 use Rattle.ignite_types.specs.Names.{node_cmp}
 use Rattle.link_memory.specs.Taking.{TakesLink}
@@ -58,7 +58,7 @@ keys_on_link inbox from f None is = refl
 keys_on_link inbox from f (Some link) is = keys_put inbox.links from (f link) link is
 
 -- an emptied link keeps its place
-pub keys_emptied : (inbox : Inbox) (from : NodeId) → keys_in (emptied inbox from).links ≡ keys_in inbox.links
+pub keys_emptied : (inbox : Inbox) (from : NodeId) → keys_in (without_messages_of inbox from).links ≡ keys_in inbox.links
 keys_emptied inbox from = keys_on_link inbox from _ (link_of inbox from) refl
 
 -- the sender at a place is the first of those that are left
@@ -80,7 +80,7 @@ same_length xs ys same = sym (length_keys xs) ∙ ap length same ∙ length_keys
 
 -- one link more is emptied
 pub one_emptied : (first now : Inbox) (i : ℕ) (d : NodeId × Link) → keys_in now.links ≡ keys_in first.links → i < length first.links
-    → emptied_each (emptied now (get_or now.links i d).0) (drop (i + 1) (keys_in first.links)) ≡ emptied_each now (drop i (keys_in first.links))
+    → without_messages_of_each (without_messages_of now (get_or now.links i d).0) (drop (i + 1) (keys_in first.links)) ≡ without_messages_of_each now (drop i (keys_in first.links))
 one_emptied first now i d same within =
     let here : i < length now.links = subst (λ n. i < n) (sym (same_length now.links first.links same)) within in
     rw (← same, add-one i) (rw (sender_next now.links i d here) refl)

@@ -1,7 +1,7 @@
 -- What it means that a link was taken out of an inbox to be changed: a vacant one stands in its place.
 use Rattle.std.specs.Prelude.{◌≡◌, false, [], Some, None}
 use Rattle.ignite_types.specs.declared.names.NodeId.{NodeId}
-use Rattle.base_words.specs.Links.{Inbox, Link, link_of, with_link}
+use Rattle.part_model.specs.Links.{Inbox, Link, link_of, with_link}
 
 pub record TakesLink (old new : Inbox) (from : NodeId) (link : Link) : Type 0 where
   pub was : link_of old from ≡ Some link

@@ -2,8 +2,8 @@
 
 ghost use Rattle.std.specs.Prelude.{◌≡◌, ◌++◌, false, [], ◌∷◌, drop, slice_get, OnOk, OnErr, IfOk, MatchOption};
 ghost use Rattle.std.specs.Option.{option_copied};
-ghost use Rattle.base_words.specs.Links.{emptied, emptied_each, is_held, new_inbox, oldest, popped, pushed, shut, with_hold};
-ghost use Rattle.base_words.specs.Tables.{keys_in};
+ghost use Rattle.part_model.specs.Links.{inbox_after_pop, inbox_after_push, inbox_shut, is_held, new_inbox, oldest_in, with_hold, without_messages_of, without_messages_of_each};
+ghost use Rattle.part_model.specs.Tables.{keys_in};
 ghost use Rattle.link_memory.specs.Taking.{TakesLink, TakesNoLink};
 
 use ignite_types::{Mem, Message, NoMemory, NodeId};
@@ -21,7 +21,7 @@ pub struct Link {
 }
 
 impl Model for Link {
-    ghost use Rattle.base_words.specs.Links.{Link as LinkValue};
+    ghost use Rattle.part_model.specs.Links.{Link as LinkValue};
 
     ghost Value = { LinkValue };
 
@@ -37,7 +37,7 @@ pub struct Inbox {
 }
 
 impl Model for Inbox {
-    ghost use Rattle.base_words.specs.Links.{Inbox as InboxValue};
+    ghost use Rattle.part_model.specs.Links.{Inbox as InboxValue};
 
     ghost Value = { InboxValue };
 
@@ -152,7 +152,7 @@ impl Inbox {
     /// Appends a message to its sender's; a closed inbox drops it.
     #[tactic(auto, using(crate::proofs::LinkLaws::node_put_put, crate::proofs::LinkLaws::node_put_there, crate::proofs::LinkLaws::node_put_back))]
     pub fn push(&mut self, from: NodeId, message: Message) -> Mem<()>
-        ensures ok { OnOk result (self.new ≡ pushed self.old from message) }
+        ensures ok { OnOk result (self.new ≡ inbox_after_push self.old from message) }
         ensures err { OnErr result (self.new ≡ self.old) }
     {
         if self.closed {
@@ -175,7 +175,7 @@ impl Inbox {
 
     /// The oldest message of a sender.
     pub fn oldest(&self, from: NodeId) -> Option<&Message>
-        ensures { option_copied result ≡ oldest self.now from }
+        ensures { option_copied result ≡ oldest_in self.now from }
     {
         match self.links.get(&from) {
             Some(link) => link.oldest(),
@@ -186,8 +186,8 @@ impl Inbox {
     /// Takes the oldest message of a sender out. With none there, nothing changes.
     #[tactic(auto, using(crate::proofs::LinkLaws::node_put_put, crate::proofs::LinkLaws::node_put_there))]
     pub fn pop(&mut self, from: NodeId) -> Option<Message>
-        ensures message { result ≡ oldest self.old from }
-        ensures rest { self.new ≡ popped self.old from }
+        ensures message { result ≡ oldest_in self.old from }
+        ensures rest { self.new ≡ inbox_after_pop self.old from }
     {
         match self.take_link(from) {
             Some(mut link) => {
@@ -223,7 +223,7 @@ impl Inbox {
     /// Empties the link from a sender, which was lost.
     #[tactic(auto, using(crate::proofs::LinkLaws::node_put_put, crate::proofs::LinkLaws::node_put_there))]
     pub fn drop_node(&mut self, from: NodeId)
-        ensures { self.new ≡ emptied self.old from }
+        ensures { self.new ≡ without_messages_of self.old from }
     {
         if let Some(mut link) = self.take_link(from) {
             link.clear(self.alloc);
@@ -233,7 +233,7 @@ impl Inbox {
 
     /// Empties the link of each sender.
     fn empty_each(&mut self)
-        ensures { self.new ≡ emptied_each self.old (keys_in self.old.links) }
+        ensures { self.new ≡ without_messages_of_each self.old (keys_in self.old.links) }
     {
         for place in 0..self.links.len() {
             let sender = self.links.as_slice()[place].0;
@@ -243,7 +243,7 @@ impl Inbox {
 
     /// Empties and closes the inbox; nothing else closes one.
     pub fn shut(&mut self)
-        ensures { self.new ≡ shut self.old }
+        ensures { self.new ≡ inbox_shut self.old }
     {
         self.empty_each();
         self.closed = true;

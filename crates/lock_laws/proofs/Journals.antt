@@ -1,7 +1,7 @@
 -- The records of a journal, node by node, and the test of each grant.
 use Rattle.std.proofs.Common.{◌≡◌, ◌++◌, ◌&&◌, ◌||◌, List, [], ◌∷◌, Option, Some, None, Bool, true, false, not, refl, ap, sym, subst, ◌∙◌}
 use Rattle.std.specs.List.{flat_map, list_all}
-use Rattle.base_words.specs.Orders.{is_node}
+use Rattle.part_model.specs.Orders.{is_node}
 use Rattle.ignite_types.specs.Names.{same_key, same_node, same_tx}
 use Rattle.ignite_types.specs.declared.journal.Rec.{Rec}
 use Rattle.ignite_types.specs.declared.names.NodeId.{NodeId}
@@ -10,7 +10,7 @@ use Rattle.ignite_types.specs.declared.text.Key.{Key}
 use Rattle.journal_statements.specs.Noted.{Noted, each_from, noted_by, rec_of, recs_of}
 use Rattle.journal_statements.specs.Waits.{grant_fits, holds_after, leaves_free}
 use Rattle.lock_laws.specs.Tracking.{GrantFits, GrantsFit}
-use Rattle.act_frames.proofs.Extending.{append_none, append_twice}
+use Rattle.frame_laws.proofs.Extending.{append_none, append_twice}
 use Rattle.ignite_types.specs.declared.journal.Rec.TheVariants as note
 
 flat_append : {A B : Type 0} (f : A → List B) (xs ys : List A) → flat_map f (xs ++ ys) ≡ flat_map f xs ++ flat_map f ys

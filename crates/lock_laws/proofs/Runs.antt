@@ -15,10 +15,10 @@ use Rattle.ignite_types.specs.declared.names.NodeId.{NodeId}
 use Rattle.ignite_types.specs.declared.placement.PartMap.{PartMap}
 use Rattle.ignite_types.specs.declared.scenario.Member.{Member}
 use Rattle.ignite_types.specs.declared.scenario.Scenario.{Scenario}
-use Rattle.base_words.specs.Directory.{next_step, node_set}
+use Rattle.part_model.specs.Directory.{next_step, node_set}
 use Rattle.journal_statements.specs.Noted.{Homes, Noted, actor, each_from, noted_by, noted_for, noted_in}
-use Rattle.lock_laws.specs.Carrying.{Carries, Goes, OneHolder}
-use Rattle.lock_laws.specs.Tracking.{AllTell, Apart, AreApart}
+use Rattle.lock_laws.specs.Carrying.{LockInvariant, LockStepInvariant, OneHolder}
+use Rattle.lock_laws.specs.Tracking.{AllOwnersMatch, AreApart, IsAbsentFrom}
 use Rattle.lock_laws.proofs.Events.{answer_goes, calls_goes, expires_goes, live_me, sees_goes, sends_goes, still, switches_goes, takes_goes}
 use Rattle.lock_laws.proofs.Journals.{split_pass, test_grant}
 use Rattle.lock_laws.proofs.Parts.{same_node_true}
@@ -27,42 +27,42 @@ use Rattle.ordered_set.specs.Members.{with_member}
 use Rattle.ordered_table.proofs.Ascending.{ascending_put}
 use Rattle.ordered_table.specs.Entries.{at, put}
 use Rattle.ordered_table.specs.Places.{IsAscending, IsBelowAll}
-use Rattle.tx_model.specs.Opening.{declared_nodes, homes_from, ids_of, opening, opening_map_of, opening_parts}
+use Rattle.tx_model.specs.Opening.{declared_nodes, ids_of, opening, opening_map_of, opening_parts, session_nodes_from}
 use Rattle.tx_model.specs.Runs.{AreSteps}
 use Rattle.tx_model.specs.World as world
-use Rattle.tx_model.specs.World.{Part, World, home_of, inbox_on, live_place, outcome, part_on}
+use Rattle.tx_model.specs.World.{Part, World, inbox_on, live_place, outcome, part_on, session_node}
 use Rattle.ignite_types.specs.declared.journal.Event.TheVariants as event
 
 module _ (s : Scenario) (noted : List Noted) where
-  abbrev homes : Homes
-  homes = homes_from 1 [] s.sessions
+  abbrev session_nodes : Homes
+  session_nodes = session_nodes_from 1 [] s.sessions
 
-  answer_home : (w : World) (session : ℕ) (home : Option NodeId) → Carries s noted w → let place = option_and_then (live_place w) home in let o = world.answers_at w session place (part_on w place) in Goes s noted o.world (noted_by home o.recs)
+  answer_home : (w : World) (session : ℕ) (home : Option NodeId) → LockInvariant s noted w → let place = option_and_then (live_place w) home in let o = world.answer_outcome w session place (part_on w place) in LockStepInvariant s noted o.world (noted_by home o.recs)
   answer_home w session None c = still s noted w w None refl refl refl c
   answer_home w session (Some id) c = answer_goes s noted w session id (live_place w id) (part_on w (live_place w id)) refl (λ k p live here. live_me w id k p live here) c
 
-  call_home : (w : World) (session : ℕ) (home : Option NodeId) → Carries s noted w → let place = option_and_then (live_place w) home in let o = world.calls_at w session place (part_on w place) in Goes s noted o.world (noted_by home o.recs)
+  call_home : (w : World) (session : ℕ) (home : Option NodeId) → LockInvariant s noted w → let place = option_and_then (live_place w) home in let o = world.call_outcome w session place (part_on w place) in LockStepInvariant s noted o.world (noted_by home o.recs)
   call_home w session None c = still s noted w w None refl refl refl c
   call_home w session (Some id) c = calls_goes s noted w session id (live_place w id) (part_on w (live_place w id)) refl (λ k p live here. live_me w id k p live here) c
 
-  pub event_goes : (w : World) (e : Event) → Carries s noted w → let o = outcome w e in Goes s noted o.world (noted_for s (actor homes e) e o.recs)
+  pub event_goes : (w : World) (e : Event) → LockInvariant s noted w → let o = outcome w e in LockStepInvariant s noted o.world (noted_for s (actor session_nodes e) e o.recs)
   event_goes w (event.Answer session) c =
-      subst (λ (hs : Homes). let o = outcome w (event.Answer session) in Goes s noted o.world (noted_by (at nat_cmp hs session) o.recs)) c.homes (answer_home w session (home_of w session) c)
+      subst (λ (hs : Homes). let o = outcome w (event.Answer session) in LockStepInvariant s noted o.world (noted_by (at nat_cmp hs session) o.recs)) c.session_nodes (answer_home w session (session_node w session) c)
   event_goes w (event.Act id from) c = let place = live_place w id in takes_goes s noted w id from place (part_on w place) (inbox_on w place) refl (λ k p live here. live_me w id k p live here) c
   event_goes w (event.Send id) c = let place = live_place w id in sends_goes s noted w id place (part_on w place) refl (λ k p live here. live_me w id k p live here) c
   event_goes w (event.See id) c = let place = live_place w id in sees_goes s noted w id place (part_on w place) refl (λ k p live here. live_me w id k p live here) c
   event_goes w (event.Expire tx) c = let place = live_place w tx.node in expires_goes s noted w tx.node tx place (part_on w place) refl (λ k p live here. live_me w tx.node k p live here) c
   event_goes w (event.Minor id) c = let place = live_place w id in switches_goes s noted w id place (part_on w place) refl (λ k p live here. live_me w id k p live here) c
   event_goes w (event.Call session) c =
-      subst (λ (hs : Homes). let o = outcome w (event.Call session) in Goes s noted o.world (noted_by (at nat_cmp hs session) o.recs)) c.homes (call_home w session (home_of w session) c)
+      subst (λ (hs : Homes). let o = outcome w (event.Call session) in LockStepInvariant s noted o.world (noted_by (at nat_cmp hs session) o.recs)) c.session_nodes (call_home w session (session_node w session) c)
   event_goes w event.Plan c = plan_goes s noted w (next_step w.directory) refl c
   event_goes w event.Tick c = tick_goes s noted w (world.least_moment w) c
   event_goes w (event.Memory id) c = let place = live_place w id in memory_goes s noted w id place (part_on w place) refl c
 
-run_passes : (s : Scenario) (noted : List Noted) (w : World) (gs : List Group) → AreSteps w gs → Carries s noted w → each_from test_grant noted (flat_map (λ (g : Group). noted_in s (homes_from 1 [] s.sessions) g) gs) ≡ true
+run_passes : (s : Scenario) (noted : List Noted) (w : World) (gs : List Group) → AreSteps w gs → LockInvariant s noted w → each_from test_grant noted (flat_map (λ (g : Group). noted_in s (session_nodes_from 1 [] s.sessions) g) gs) ≡ true
 run_passes s noted w [] steps c = refl
 run_passes s noted w (g ∷ gs) steps c =
-    let hs = homes_from 1 [] s.sessions in
+    let hs = session_nodes_from 1 [] s.sessions in
     let o = outcome w g.event in
     let ns = noted_for s (actor hs g.event) g.event o.recs in
     let goes = event_goes s noted w g.event c in
@@ -102,7 +102,7 @@ less_apart a b less =
     ] refl
 
 module _ (s : Scenario) (m : PartMap) where
-  apart_below : (id : NodeId) (ids : List NodeId) → IsBelowAll node_cmp id (as_table ids) → Apart id (opening_parts s m ids)
+  apart_below : (id : NodeId) (ids : List NodeId) → IsBelowAll node_cmp id (as_table ids) → IsAbsentFrom id (opening_parts s m ids)
   apart_below id [] below = tt
   apart_below id (x ∷ ids) below = (less_apart id x below.0, apart_below id ids below.1)
 
@@ -110,15 +110,15 @@ module _ (s : Scenario) (m : PartMap) where
   opening_apart [] up = tt
   opening_apart (x ∷ ids) up = (apart_below x ids up.0, opening_apart ids up.1)
 
-  opening_tell : (ids : List NodeId) → AllTell [] (opening_parts s m ids)
+  opening_tell : (ids : List NodeId) → AllOwnersMatch [] (opening_parts s m ids)
   opening_tell [] = tt
   opening_tell (x ∷ ids) = (record { ascending = tt; owners = λ tx key. refl }, opening_tell ids)
 
-opening_carries : (s : Scenario) → Carries s [] (opening s)
+opening_carries : (s : Scenario) → LockInvariant s [] (opening s)
 opening_carries s = record {
   apart = opening_apart s (opening_map_of s) (ids_of s) (set_ascends [] (declared_nodes s) tt);
   tell = opening_tell s (opening_map_of s) (ids_of s);
-  homes = refl;
+  session_nodes = refl;
   plan = refl;
 }
 

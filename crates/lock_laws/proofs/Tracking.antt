@@ -6,12 +6,12 @@ use Rattle.std.specs.declared.cmp.Ordering.TheVariants.{Less, Equal, Greater}
 use Rattle.std.proofs.lemmas.Bool.{eqb-true}
 use Rattle.std.proofs.lemmas.Bool.Decides.{nat_tests}
 use Rattle.std.proofs.lemmas.Cmp.{tied_itself}
-use Rattle.act_frames.proofs.Extending.{append_none, append_twice}
-use Rattle.act_frames.proofs.Owners.{key_total}
-use Rattle.act_frames.specs.Kits.{Kit, is_lock}
-use Rattle.act_rows.specs.Locks.{enqueued, grants, is_owner, leaves, owner_at, passed_on, placed}
-use Rattle.act_rows.specs.Steps.{installed_top, noting, sent_all}
-use Rattle.base_words.specs.Queues.{Queues, enqueued_in, left_by, left_in, other_owner, owner_in, queue_in, with_queue_in}
+use Rattle.frame_laws.proofs.Extending.{append_none, append_twice}
+use Rattle.frame_laws.proofs.Owners.{key_total}
+use Rattle.frame_laws.specs.Kits.{ClosedUnderSteps, is_lock}
+use Rattle.act_rows.specs.Locks.{after_grant, after_leave, after_lock_behind, after_pass_on, is_owner, owner_at, with_queued}
+use Rattle.act_rows.specs.Steps.{installed_top, with_note, with_outs}
+use Rattle.part_model.specs.Queues.{Queues, other_owner, owner_in, queue_in, queue_without, queues_with, queues_without, with_queue_in}
 use Rattle.hash_table.specs.SameKeys.{exact_keys, exact_txs}
 use Rattle.ignite_types.specs.Names.{key_cmp, same_key, same_tx}
 use Rattle.ignite_types.specs.declared.journal.Rec.{Rec}
@@ -20,7 +20,7 @@ use Rattle.ignite_types.specs.declared.names.TopVer.{TopVer}
 use Rattle.ignite_types.specs.declared.names.TxId.{TxId}
 use Rattle.ignite_types.specs.declared.text.Key.{Key}
 use Rattle.journal_statements.specs.Waits.{holds_after}
-use Rattle.lock_laws.specs.Tracking.{GrantFits, GrantsFit, Tells, Tracks}
+use Rattle.lock_laws.specs.Tracking.{GrantFits, GrantsFit, KeepsOwnersMatch, OwnersMatch}
 use Rattle.node_state.specs.Node.{NodeState}
 use Rattle.ordered_table.proofs.Ascending as ascending
 use Rattle.ordered_table.proofs.Laws as laws
@@ -108,7 +108,7 @@ fits_append before (x ∷ xs) ys first second =
 -- what is noted tells of the new queues where it takes each owner before to the owner after
 tells_on : (recs more : List Rec) (qs qs2 : Queues) → IsAscending key_cmp qs2 →
     ((tx : TxId) (key : Key) → holds_after tx key (is_owner tx (owner_in qs key)) more ≡ is_owner tx (owner_in qs2 key)) →
-    Tells recs qs → Tells (recs ++ more) qs2
+    OwnersMatch recs qs → OwnersMatch (recs ++ more) qs2
 tells_on recs more qs qs2 up goes tells = record {
   ascending = up;
   owners = λ tx key.
@@ -118,19 +118,19 @@ tells_on recs more qs qs2 up goes tells = record {
 }
 
 -- no record and the same queues
-still : (before after : NodeState) → after.noted ≡ before.noted → after.queues ≡ before.queues → Tracks before after
+still : (before after : NodeState) → after.noted ≡ before.noted → after.queues ≡ before.queues → KeepsOwnersMatch before after
 still before after noted queues = record {
   more = [];
   noted_is = noted ∙ sym (append_none before.noted);
-  tells = λ recs t. subst (λ (rs : List Rec). Tells rs after.queues) (sym (append_none recs)) (subst (λ (qs : Queues). Tells recs qs) (sym queues) t);
+  tells = λ recs t. subst (λ (rs : List Rec). OwnersMatch rs after.queues) (sym (append_none recs)) (subst (λ (qs : Queues). OwnersMatch recs qs) (sym queues) t);
   fits = λ recs t. tt;
 }
 
-andthen : (a b c : NodeState) → Tracks a b → Tracks b c → Tracks a c
+andthen : (a b c : NodeState) → KeepsOwnersMatch a b → KeepsOwnersMatch b c → KeepsOwnersMatch a c
 andthen a b c first second = record {
   more = first.more ++ second.more;
   noted_is = second.noted_is ∙ ap (λ rs. rs ++ second.more) first.noted_is ∙ append_twice a.noted first.more second.more;
-  tells = λ recs t. subst (λ (rs : List Rec). Tells rs c.queues) (append_twice recs first.more second.more) (second.tells (recs ++ first.more) (first.tells recs t));
+  tells = λ recs t. subst (λ (rs : List Rec). OwnersMatch rs c.queues) (append_twice recs first.more second.more) (second.tells (recs ++ first.more) (first.tells recs t));
   fits = λ recs t. fits_append recs first.more second.more (first.fits recs t) (second.fits (recs ++ first.more) (first.tells recs t));
 }
 
@@ -144,7 +144,7 @@ lockless_fits : (before : List Rec) (r : Rec) → is_lock r ≡ false → GrantF
 lockless_fits before (note.Grant u top k) lockless = absurd (cc)
 lockless_fits before r lockless = tt
 
-noting_tracks : (s : NodeState) (r : Rec) → is_lock r ≡ false → Tracks s (noting s r)
+noting_tracks : (s : NodeState) (r : Rec) → is_lock r ≡ false → KeepsOwnersMatch s (with_note s r)
 noting_tracks s r lockless = record {
   more = r ∷ [];
   noted_is = refl;
@@ -185,9 +185,9 @@ granted_owner u tx (x ∷ q) free =
     subst (λ (o : TxId). (same_tx u o || (same_tx tx u && true)) ≡ same_tx u o) (sym (no_other tx x free)) (or_same (same_tx u tx) (same_tx tx u) (tx_equiv.symm tx u))
 
 granted : (qs : Queues) (tx : TxId) (top : TopVer) (key : Key) → IsAscending key_cmp qs → other_owner tx (owner_in qs key) ≡ None → (u : TxId) (k : Key) →
-    holds_after u k (is_owner u (owner_in qs k)) (note.Grant tx top key ∷ []) ≡ is_owner u (owner_in (enqueued_in qs tx key) k)
+    holds_after u k (is_owner u (owner_in qs k)) (note.Grant tx top key ∷ []) ≡ is_owner u (owner_in (queues_with qs tx key) k)
 granted qs tx top key up free u k =
-    by_key (λ (x : Key). (is_owner u (owner_in qs x) || (same_tx tx u && same_key key x)) ≡ is_owner u (owner_in (enqueued_in qs tx key) x)) key k
+    by_key (λ (x : Key). (is_owner u (owner_in qs x) || (same_tx tx u && same_key key x)) ≡ is_owner u (owner_in (queues_with qs tx key) x)) key k
     (rw (key_equiv.refl key, with_same qs key (queue_in qs key ++ tx ∷ []) up) (granted_owner u tx (queue_in qs key) free))
     (λ apart other. granted_apart (is_owner u (owner_in qs k)) (same_tx tx u) (same_key key k) other ∙ ap (λ (q : List TxId). is_owner u (slice_get q 0)) (sym (with_apart qs key k (queue_in qs key ++ tx ∷ []) up apart)))
 
@@ -196,12 +196,12 @@ others_free u tx None free other = refl
 others_free u tx (Some o) free other = subst (λ (x : TxId). same_tx u x ≡ false) (sym (no_other tx o free)) other
 
 -- a grant of a key that no other transaction owns, with whatever else changes
-grant_tracks : (s after : NodeState) (tx : TxId) (top : TopVer) (key : Key) → after.noted ≡ s.noted ++ note.Grant tx top key ∷ [] → after.queues ≡ enqueued_in s.queues tx key → other_owner tx (owner_at s key) ≡ None → Tracks s after
+grant_tracks : (s after : NodeState) (tx : TxId) (top : TopVer) (key : Key) → after.noted ≡ s.noted ++ note.Grant tx top key ∷ [] → after.queues ≡ queues_with s.queues tx key → other_owner tx (owner_at s key) ≡ None → KeepsOwnersMatch s after
 grant_tracks s after tx top key noted queues free = record {
   more = note.Grant tx top key ∷ [];
   noted_is = noted;
-  tells = λ recs t. subst (λ (qs : Queues). Tells (recs ++ note.Grant tx top key ∷ []) qs) (sym queues)
-      (tells_on recs (note.Grant tx top key ∷ []) s.queues (enqueued_in s.queues tx key) (ascending_with s.queues key (queue_in s.queues key ++ tx ∷ []) t.ascending) (granted s.queues tx top key t.ascending free) t);
+  tells = λ recs t. subst (λ (qs : Queues). OwnersMatch (recs ++ note.Grant tx top key ∷ []) qs) (sym queues)
+      (tells_on recs (note.Grant tx top key ∷ []) s.queues (queues_with s.queues tx key) (ascending_with s.queues key (queue_in s.queues key ++ tx ∷ []) t.ascending) (granted s.queues tx top key t.ascending free) t);
   fits = λ recs t. (λ u other. t.owners u key ∙ others_free u tx (owner_in s.queues key) free other, tt);
 }
 
@@ -212,18 +212,18 @@ queued_owner tx owner [] is = absurd (cc)
 queued_owner tx owner (x ∷ q) is = refl
 
 queued : (qs : Queues) (tx owner : TxId) (key : Key) → IsAscending key_cmp qs → owner_in qs key ≡ Some owner → (u : TxId) (k : Key) →
-    is_owner u (owner_in qs k) ≡ is_owner u (owner_in (enqueued_in qs tx key) k)
+    is_owner u (owner_in qs k) ≡ is_owner u (owner_in (queues_with qs tx key) k)
 queued qs tx owner key up is u k =
-    by_key (λ (x : Key). is_owner u (owner_in qs x) ≡ is_owner u (owner_in (enqueued_in qs tx key) x)) key k
+    by_key (λ (x : Key). is_owner u (owner_in qs x) ≡ is_owner u (owner_in (queues_with qs tx key) x)) key k
     (rw (with_same qs key (queue_in qs key ++ tx ∷ []) up) (ap (is_owner u) (queued_owner tx owner (queue_in qs key) is)))
     (λ apart other. ap (λ (q : List TxId). is_owner u (slice_get q 0)) (sym (with_apart qs key k (queue_in qs key ++ tx ∷ []) up apart)))
 
-placed_tracks : (s : NodeState) (from : NodeId) (tx : TxId) (top : TopVer) (key : Key) (owner : Option TxId) → owner_at s key ≡ owner → Tracks s (placed s from tx top key owner)
-placed_tracks s from tx top key None is = grant_tracks s (grants (enqueued s tx key) from tx top key) tx top key refl refl (ap (other_owner tx) is)
+placed_tracks : (s : NodeState) (from : NodeId) (tx : TxId) (top : TopVer) (key : Key) (owner : Option TxId) → owner_at s key ≡ owner → KeepsOwnersMatch s (after_lock_behind s from tx top key owner)
+placed_tracks s from tx top key None is = grant_tracks s (after_grant (with_queued s tx key) from tx top key) tx top key refl refl (ap (other_owner tx) is)
 placed_tracks s from tx top key (Some owner) is = record {
   more = note.Queue tx key owner ∷ [];
   noted_is = refl;
-  tells = λ recs t. tells_on recs (note.Queue tx key owner ∷ []) s.queues (enqueued_in s.queues tx key) (ascending_with s.queues key (queue_in s.queues key ++ tx ∷ []) t.ascending) (queued s.queues tx owner key t.ascending is) t;
+  tells = λ recs t. tells_on recs (note.Queue tx key owner ∷ []) s.queues (queues_with s.queues tx key) (ascending_with s.queues key (queue_in s.queues key ++ tx ∷ []) t.ascending) (queued s.queues tx owner key t.ascending is) t;
   fits = λ recs t. (tt, tt);
 }
 
@@ -241,7 +241,7 @@ owner_dropped u tx (Some o) is =
     ]))
 
 -- any other transaction that is first stays so
-first_kept : (u tx : TxId) (q : List TxId) → is_owner tx (slice_get q 0) ≡ false → (is_owner u (slice_get q 0) && not (same_tx tx u && true)) ≡ is_owner u (slice_get (left_by tx q) 0)
+first_kept : (u tx : TxId) (q : List TxId) → is_owner tx (slice_get q 0) ≡ false → (is_owner u (slice_get q 0) && not (same_tx tx u && true)) ≡ is_owner u (slice_get (queue_without tx q) 0)
 first_kept u tx [] other = refl
 first_kept u tx (x ∷ q) other =
     rw (tx_equiv.symm x tx, other)
@@ -251,72 +251,72 @@ first_kept u tx (x ∷ q) other =
     ] refl)
 
 left_goes : (qs : Queues) (tx : TxId) (key : Key) → IsAscending key_cmp qs → is_owner tx (owner_in qs key) ≡ false → (u : TxId) (k : Key) →
-    holds_after u k (is_owner u (owner_in qs k)) (note.Drop tx key ∷ []) ≡ is_owner u (owner_in (left_in qs tx key) k)
+    holds_after u k (is_owner u (owner_in qs k)) (note.Drop tx key ∷ []) ≡ is_owner u (owner_in (queues_without qs tx key) k)
 left_goes qs tx key up other u k =
-    by_key (λ (x : Key). (is_owner u (owner_in qs x) && not (same_tx tx u && same_key key x)) ≡ is_owner u (owner_in (left_in qs tx key) x)) key k
-    (rw (key_equiv.refl key, with_same qs key (left_by tx (queue_in qs key)) up) (first_kept u tx (queue_in qs key) other))
-    (λ apart differs. dropped_apart (is_owner u (owner_in qs k)) (same_tx tx u) (same_key key k) differs ∙ ap (λ (q : List TxId). is_owner u (slice_get q 0)) (sym (with_apart qs key k (left_by tx (queue_in qs key)) up apart)))
+    by_key (λ (x : Key). (is_owner u (owner_in qs x) && not (same_tx tx u && same_key key x)) ≡ is_owner u (owner_in (queues_without qs tx key) x)) key k
+    (rw (key_equiv.refl key, with_same qs key (queue_without tx (queue_in qs key)) up) (first_kept u tx (queue_in qs key) other))
+    (λ apart differs. dropped_apart (is_owner u (owner_in qs k)) (same_tx tx u) (same_key key k) differs ∙ ap (λ (q : List TxId). is_owner u (slice_get q 0)) (sym (with_apart qs key k (queue_without tx (queue_in qs key)) up apart)))
 
-none_left : (qs : Queues) (tx : TxId) (key : Key) → IsAscending key_cmp qs → is_owner tx (owner_in qs key) ≡ true → owner_in (left_in qs tx key) key ≡ None → (u : TxId) (k : Key) →
-    holds_after u k (is_owner u (owner_in qs k)) (note.Drop tx key ∷ []) ≡ is_owner u (owner_in (left_in qs tx key) k)
+none_left : (qs : Queues) (tx : TxId) (key : Key) → IsAscending key_cmp qs → is_owner tx (owner_in qs key) ≡ true → owner_in (queues_without qs tx key) key ≡ None → (u : TxId) (k : Key) →
+    holds_after u k (is_owner u (owner_in qs k)) (note.Drop tx key ∷ []) ≡ is_owner u (owner_in (queues_without qs tx key) k)
 none_left qs tx key up is none u k =
-    by_key (λ (x : Key). (is_owner u (owner_in qs x) && not (same_tx tx u && same_key key x)) ≡ is_owner u (owner_in (left_in qs tx key) x)) key k
+    by_key (λ (x : Key). (is_owner u (owner_in qs x) && not (same_tx tx u && same_key key x)) ≡ is_owner u (owner_in (queues_without qs tx key) x)) key k
     (rw (key_equiv.refl key, none) (owner_dropped u tx (owner_in qs key) is))
-    (λ apart differs. dropped_apart (is_owner u (owner_in qs k)) (same_tx tx u) (same_key key k) differs ∙ ap (λ (q : List TxId). is_owner u (slice_get q 0)) (sym (with_apart qs key k (left_by tx (queue_in qs key)) up apart)))
+    (λ apart differs. dropped_apart (is_owner u (owner_in qs k)) (same_tx tx u) (same_key key k) differs ∙ ap (λ (q : List TxId). is_owner u (slice_get q 0)) (sym (with_apart qs key k (queue_without tx (queue_in qs key)) up apart)))
 
-next_owns : (qs : Queues) (tx next : TxId) (top : TopVer) (key : Key) → IsAscending key_cmp qs → is_owner tx (owner_in qs key) ≡ true → owner_in (left_in qs tx key) key ≡ Some next → (u : TxId) (k : Key) →
-    holds_after u k (is_owner u (owner_in qs k)) (note.Drop tx key ∷ note.Grant next top key ∷ []) ≡ is_owner u (owner_in (left_in qs tx key) k)
+next_owns : (qs : Queues) (tx next : TxId) (top : TopVer) (key : Key) → IsAscending key_cmp qs → is_owner tx (owner_in qs key) ≡ true → owner_in (queues_without qs tx key) key ≡ Some next → (u : TxId) (k : Key) →
+    holds_after u k (is_owner u (owner_in qs k)) (note.Drop tx key ∷ note.Grant next top key ∷ []) ≡ is_owner u (owner_in (queues_without qs tx key) k)
 next_owns qs tx next top key up is some u k =
-    by_key (λ (x : Key). ((is_owner u (owner_in qs x) && not (same_tx tx u && same_key key x)) || (same_tx next u && same_key key x)) ≡ is_owner u (owner_in (left_in qs tx key) x)) key k
+    by_key (λ (x : Key). ((is_owner u (owner_in qs x) && not (same_tx tx u && same_key key x)) || (same_tx next u && same_key key x)) ≡ is_owner u (owner_in (queues_without qs tx key) x)) key k
     (rw (key_equiv.refl key, some, owner_dropped u tx (owner_in qs key) is) (and_true (same_tx next u) ∙ tx_equiv.symm next u))
     (λ apart differs.
     granted_apart _ (same_tx next u) (same_key key k) differs
     ∙ dropped_apart (is_owner u (owner_in qs k)) (same_tx tx u) (same_key key k) differs
-    ∙ ap (λ (q : List TxId). is_owner u (slice_get q 0)) (sym (with_apart qs key k (left_by tx (queue_in qs key)) up apart)))
+    ∙ ap (λ (q : List TxId). is_owner u (slice_get q 0)) (sym (with_apart qs key k (queue_without tx (queue_in qs key)) up apart)))
 
 -- the key is free behind the Drop of its owner
-dropped_free : (recs : List Rec) (qs : Queues) (tx : TxId) (key : Key) (u : TxId) → Tells recs qs → is_owner tx (owner_in qs key) ≡ true → holds_after u key false (recs ++ note.Drop tx key ∷ []) ≡ false
+dropped_free : (recs : List Rec) (qs : Queues) (tx : TxId) (key : Key) (u : TxId) → OwnersMatch recs qs → is_owner tx (owner_in qs key) ≡ true → holds_after u key false (recs ++ note.Drop tx key ∷ []) ≡ false
 dropped_free recs qs tx key u t is =
     holds_append u key false recs (note.Drop tx key ∷ [])
     ∙ ap (λ (h : Bool). h && not (same_tx tx u && same_key key key)) (t.owners u key)
     ∙ rw (key_equiv.refl key) (owner_dropped u tx (owner_in qs key) is)
 
 drop_tracks : (s : NodeState) (tx : TxId) (key : Key) →
-    (IsAscending key_cmp s.queues → (u : TxId) (k : Key) → holds_after u k (is_owner u (owner_in s.queues k)) (note.Drop tx key ∷ []) ≡ is_owner u (owner_in (left_in s.queues tx key) k)) →
-    Tracks s (noting (leaves s tx key) (note.Drop tx key))
+    (IsAscending key_cmp s.queues → (u : TxId) (k : Key) → holds_after u k (is_owner u (owner_in s.queues k)) (note.Drop tx key ∷ []) ≡ is_owner u (owner_in (queues_without s.queues tx key) k)) →
+    KeepsOwnersMatch s (with_note (after_leave s tx key) (note.Drop tx key))
 drop_tracks s tx key goes = record {
   more = note.Drop tx key ∷ [];
   noted_is = refl;
-  tells = λ recs t. tells_on recs (note.Drop tx key ∷ []) s.queues (left_in s.queues tx key) (ascending_with s.queues key (left_by tx (queue_in s.queues key)) t.ascending) (goes t.ascending) t;
+  tells = λ recs t. tells_on recs (note.Drop tx key ∷ []) s.queues (queues_without s.queues tx key) (ascending_with s.queues key (queue_without tx (queue_in s.queues key)) t.ascending) (goes t.ascending) t;
   fits = λ recs t. (tt, tt);
 }
 
-passed_tracks : (s : NodeState) (tx : TxId) (key : Key) (was : Bool) (owner : Option TxId) → is_owner tx (owner_at s key) ≡ was → owner_in (left_in s.queues tx key) key ≡ owner →
-    Tracks s (passed_on (noting (leaves s tx key) (note.Drop tx key)) key was owner)
+passed_tracks : (s : NodeState) (tx : TxId) (key : Key) (was : Bool) (owner : Option TxId) → is_owner tx (owner_at s key) ≡ was → owner_in (queues_without s.queues tx key) key ≡ owner →
+    KeepsOwnersMatch s (after_pass_on (with_note (after_leave s tx key) (note.Drop tx key)) key was owner)
 passed_tracks s tx key true (Some next) is next_is =
-    let top = installed_top (noting (leaves s tx key) (note.Drop tx key)) in
+    let top = installed_top (with_note (after_leave s tx key) (note.Drop tx key)) in
     record {
       more = note.Drop tx key ∷ note.Grant next top key ∷ [];
       noted_is = append_twice s.noted (note.Drop tx key ∷ []) (note.Grant next top key ∷ []);
-      tells = λ recs t. tells_on recs (note.Drop tx key ∷ note.Grant next top key ∷ []) s.queues (left_in s.queues tx key) (ascending_with s.queues key (left_by tx (queue_in s.queues key)) t.ascending) (next_owns s.queues tx next top key t.ascending is next_is) t;
+      tells = λ recs t. tells_on recs (note.Drop tx key ∷ note.Grant next top key ∷ []) s.queues (queues_without s.queues tx key) (ascending_with s.queues key (queue_without tx (queue_in s.queues key)) t.ascending) (next_owns s.queues tx next top key t.ascending is next_is) t;
       fits = λ recs t. (tt, (λ u other. dropped_free recs s.queues tx key u t is, tt));
     }
 passed_tracks s tx key true None is none = drop_tracks s tx key (λ up. none_left s.queues tx key up is none)
 passed_tracks s tx key false owner other still_is = drop_tracks s tx key (λ up. left_goes s.queues tx key up other)
 
 -- every small step goes on telling of the lock queues
-pub tracking : Kit Tracks
+pub tracking : ClosedUnderSteps KeepsOwnersMatch
 tracking = record {
   nothing = λ s. still s s refl refl;
   andthen = andthen;
   aside = λ before after me acts now noted outbox queues. still before after noted queues;
   noting = λ s r own lockless. noting_tracks s r lockless;
-  sent_all = λ s outs. still s (sent_all s outs) refl refl;
+  sent_all = λ s outs. still s (with_outs s outs) refl refl;
   placed = λ s from tx top key. placed_tracks s from tx top key (owner_at s key) refl;
-  released = λ s tx key. passed_tracks s tx key (is_owner tx (owner_at s key)) (owner_in (left_in s.queues tx key) key) refl refl;
-  owned = λ s tx top key free. grant_tracks s (noting (enqueued s tx key) (note.Grant tx top key)) tx top key refl refl free;
+  released = λ s tx key. passed_tracks s tx key (is_owner tx (owner_at s key)) (owner_in (queues_without s.queues tx key) key) refl refl;
+  owned = λ s tx top key free. grant_tracks s (with_note (with_queued s tx key) (note.Grant tx top key)) tx top key refl refl free;
 }
 
 -- a record that is no lock changes nothing of who holds what
-pub lockless_tells : (recs : List Rec) (r : Rec) (queues : Queues) → is_lock r ≡ false → Tells recs queues → Tells (recs ++ r ∷ []) queues
+pub lockless_tells : (recs : List Rec) (r : Rec) (queues : Queues) → is_lock r ≡ false → OwnersMatch recs queues → OwnersMatch (recs ++ r ∷ []) queues
 lockless_tells recs r queues lockless t = tells_on recs (r ∷ []) queues queues t.ascending (λ tx key. lockless_holds tx key (is_owner tx (owner_in queues key)) r lockless) t

@@ -5,20 +5,20 @@ use Rattle.ignite_types.specs.declared.list.List.{List}
 use Rattle.ignite_types.specs.declared.scenario.Scenario.{Scenario}
 use Rattle.journal_statements.specs.Noted.{Noted, each_from}
 use Rattle.journal_statements.specs.Waits.{grant_fits, one_holder}
-use Rattle.lock_laws.specs.Tracking.{AllTell, AreApart}
-use Rattle.tx_model.specs.Opening.{homes_from}
+use Rattle.lock_laws.specs.Tracking.{AllOwnersMatch, AreApart}
+use Rattle.tx_model.specs.Opening.{session_nodes_from}
 use Rattle.tx_model.specs.Runs.{IsLegal}
 use Rattle.tx_model.specs.World.{World}
 
-pub record Carries (s : Scenario) (noted : List Noted) (w : World) : Type 0 where
+pub record LockInvariant (s : Scenario) (noted : List Noted) (w : World) : Type 0 where
   pub apart : AreApart w.parts
-  pub tell : AllTell noted w.parts
-  pub homes : w.homes ≡ homes_from 1 [] s.sessions
+  pub tell : AllOwnersMatch noted w.parts
+  pub session_nodes : w.session_nodes ≡ session_nodes_from 1 [] s.sessions
   pub plan : w.directory.plan ≡ s.plan
 
 -- with what is noted next it is known still, and each grant among it fits
-pub record Goes (s : Scenario) (noted : List Noted) (after : World) (more : List Noted) : Type 0 where
-  pub carries : Carries s (noted ++ more) after
+pub record LockStepInvariant (s : Scenario) (noted : List Noted) (after : World) (more : List Noted) : Type 0 where
+  pub carries : LockInvariant s (noted ++ more) after
   pub pass : each_from (λ (before : List Noted) (n : Noted). grant_fits before n.node n.rec) noted more ≡ true
 
 -- at every moment of a run at most one transaction holds a key at one node

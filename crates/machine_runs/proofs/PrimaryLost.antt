@@ -3,11 +3,11 @@
 use Rattle.std.proofs.Common.{[], Ok, false, refl, true, ◌∷◌, ◌≡◌}
 use Rattle.ignite_types.specs.declared.scenario.Scenario.{Scenario}
 use Rattle.machine_runs.specs.Driver.{Shown, laws_hold, shown}
-use Rattle.machine_runs.specs.Words.{absent, begin, client, commit, entry, from_moment, get, lose, node_lost, none, ok, put, scenario, server, session, sleep, tx, version}
+use Rattle.machine_runs.specs.Words.{absent, begin, commit, commit_entry, from_moment, get, lose, node_lost, none, numbered_client, numbered_server, ok, put_item, scenario, session_on, sleep, tx, version}
 
 abbrev primary_lost : Scenario
-primary_lost = scenario 1 1 (server 1 ∷ server 2 ∷ client 9 ∷ []) (from_moment 10 (lose 1) ∷ [])
-    (session "A" 9 (begin ∷ put "a" "1" ∷ sleep 20 ∷ commit ∷ get "a" ∷ []) ∷ [])
+primary_lost = scenario 1 1 (numbered_server 1 ∷ numbered_server 2 ∷ numbered_client 9 ∷ []) (from_moment 10 (lose 1) ∷ [])
+    (session_on "A" 9 (begin ∷ put_item "a" "1" ∷ sleep 20 ∷ commit ∷ get "a" ∷ []) ∷ [])
 
 abbrev comes_to : Shown
 comes_to = record {
@@ -15,7 +15,7 @@ comes_to = record {
   ended = true;
   answers = (ok ∷ ok ∷ ok ∷ node_lost 1 ∷ none ∷ []) ∷ [];
   decided = (tx 9 1 1, false) ∷ (tx 9 1 2, true) ∷ [];
-  history = entry (tx 9 1 2) (version 2 0) (absent "a" ∷ []) [] ∷ [];
+  history = commit_entry (tx 9 1 2) (version 2 0) (absent "a" ∷ []) [] ∷ [];
   left = Ok [];
 }
 

@@ -4,13 +4,13 @@
 use Rattle.std.proofs.Common.{[], Ok, false, refl, true, ◌∷◌, ◌≡◌}
 use Rattle.ignite_types.specs.declared.scenario.Scenario.{Scenario}
 use Rattle.machine_runs.specs.Driver.{Shown, laws_hold, shown}
-use Rattle.machine_runs.specs.Words.{absent, begin, client, commit, entry, from_moment, get, hold, lose, none, ok, put, scenario, server, session, sleep, tx, version}
+use Rattle.machine_runs.specs.Words.{absent, begin, commit, commit_entry, from_moment, get, hold, lose, none, numbered_client, numbered_server, ok, put_item, scenario, session_on, sleep, tx, version}
 
 abbrev rollback_recovered : Scenario
-rollback_recovered = scenario 2 0 (server 1 ∷ server 3 ∷ client 9 ∷ [])
+rollback_recovered = scenario 2 0 (numbered_server 1 ∷ numbered_server 3 ∷ numbered_client 9 ∷ [])
     (from_moment 5 (hold 9 3) ∷ from_moment 20 (lose 9) ∷ [])
-    (session "A" 9 (begin ∷ put "a" "1" ∷ put "b" "2" ∷ sleep 10 ∷ commit ∷ [])
-    ∷ session "B" 1 (sleep 15 ∷ get "a" ∷ [])
+    (session_on "A" 9 (begin ∷ put_item "a" "1" ∷ put_item "b" "2" ∷ sleep 10 ∷ commit ∷ [])
+    ∷ session_on "B" 1 (sleep 15 ∷ get "a" ∷ [])
     ∷ [])
 
 abbrev comes_to : Shown
@@ -19,7 +19,7 @@ comes_to = record {
   ended = true;
   answers = (ok ∷ ok ∷ ok ∷ ok ∷ []) ∷ (ok ∷ none ∷ []) ∷ [];
   decided = (tx 9 1 1, false) ∷ (tx 1 2 1, true) ∷ [];
-  history = entry (tx 1 2 1) (version 1 0) (absent "a" ∷ []) [] ∷ [];
+  history = commit_entry (tx 1 2 1) (version 1 0) (absent "a" ∷ []) [] ∷ [];
   left = Ok [];
 }
 

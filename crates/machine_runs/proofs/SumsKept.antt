@@ -3,13 +3,13 @@ use Rattle.std.proofs.Common.{[], Ok, refl, true, ◌∷◌, ◌≡◌}
 use Rattle.std.specs.Fmt.{digits}
 use Rattle.ignite_types.specs.declared.scenario.Scenario.{Scenario}
 use Rattle.machine_runs.specs.Driver.{Shown, laws_hold, shown}
-use Rattle.machine_runs.specs.Words.{begin, commit, committed, entry, give, holds, kept, ok, put, scenario, server, session, sleep, take, tx, value, version}
+use Rattle.machine_runs.specs.Words.{begin, commit, commit_entry, found_value, give, map_pair, numbered_server, ok, pair_of, put_item, scenario, session_on, sleep, take, told_committed, tx, version}
 
 abbrev sums_kept : Scenario
-sums_kept = scenario 1024 0 (server 1 ∷ []) []
-    (session "A" 1
-    (put "a" "10" ∷ put "b" "0" ∷ sleep 5 ∷ begin ∷ take "a" 3 ∷ sleep 5 ∷ give "b" 3 ∷ commit ∷ [])
-    ∷ session "B" 1 (sleep 5 ∷ begin ∷ take "a" 5 ∷ give "b" 5 ∷ commit ∷ [])
+sums_kept = scenario 1024 0 (numbered_server 1 ∷ []) []
+    (session_on "A" 1
+    (put_item "a" "10" ∷ put_item "b" "0" ∷ sleep 5 ∷ begin ∷ take "a" 3 ∷ sleep 5 ∷ give "b" 3 ∷ commit ∷ [])
+    ∷ session_on "B" 1 (sleep 5 ∷ begin ∷ take "a" 5 ∷ give "b" 5 ∷ commit ∷ [])
     ∷ [])
 
 abbrev comes_to : Shown
@@ -17,21 +17,21 @@ comes_to = record {
   events = 84;
   ended = true;
   answers =
-      (ok ∷ ok ∷ ok ∷ ok ∷ value "7" ∷ ok ∷ value "3" ∷ committed ∷ [])
-      ∷ (ok ∷ ok ∷ value "2" ∷ value "8" ∷ committed ∷ [])
+      (ok ∷ ok ∷ ok ∷ ok ∷ found_value "7" ∷ ok ∷ found_value "3" ∷ told_committed ∷ [])
+      ∷ (ok ∷ ok ∷ found_value "2" ∷ found_value "8" ∷ told_committed ∷ [])
       ∷ [];
   decided = (tx 1 1 1, true) ∷ (tx 1 1 2, true) ∷ (tx 1 1 3, true) ∷ (tx 1 2 1, true) ∷ [];
   history =
-      entry (tx 1 1 1) (version 1 0) [] (holds "a" "10" ∷ [])
-      ∷ entry (tx 1 1 2) (version 1 0) [] (holds "b" "0" ∷ [])
-      ∷ entry (tx 1 1 3) (version 1 0)
-      (holds "a" "10" ∷ holds "b" "0" ∷ [])
-      (holds "a" "7" ∷ holds "b" "3" ∷ [])
-      ∷ entry (tx 1 2 1) (version 1 0)
-      (holds "a" "7" ∷ holds "b" "3" ∷ [])
-      (holds "a" "2" ∷ holds "b" "8" ∷ [])
+      commit_entry (tx 1 1 1) (version 1 0) [] (pair_of "a" "10" ∷ [])
+      ∷ commit_entry (tx 1 1 2) (version 1 0) [] (pair_of "b" "0" ∷ [])
+      ∷ commit_entry (tx 1 1 3) (version 1 0)
+      (pair_of "a" "10" ∷ pair_of "b" "0" ∷ [])
+      (pair_of "a" "7" ∷ pair_of "b" "3" ∷ [])
+      ∷ commit_entry (tx 1 2 1) (version 1 0)
+      (pair_of "a" "7" ∷ pair_of "b" "3" ∷ [])
+      (pair_of "a" "2" ∷ pair_of "b" "8" ∷ [])
       ∷ [];
-  left = Ok (kept "a" "2" ∷ kept "b" "8" ∷ []);
+  left = Ok (map_pair "a" "2" ∷ map_pair "b" "8" ∷ []);
 }
 
 the_sum_is_ten : shown sums_kept ≡ comes_to

@@ -17,8 +17,8 @@ use Rattle.ignite_types.specs.declared.text.Key.{Key}
 use Rattle.journal_statements.specs.Headline.{headline}
 use Rattle.tx_model.specs.History.{Map, commits, records, serial}
 use Rattle.tx_model.specs.Opening.{opening}
-use Rattle.tx_model.specs.Runs.{after}
-use Rattle.tx_model.specs.World.{Outcome, World, all_over, outcome, possible}
+use Rattle.tx_model.specs.Runs.{world_after}
+use Rattle.tx_model.specs.World.{Outcome, World, all_sessions_over, outcome, possible}
 use Rattle.tx_model.specs.declared.history.BadRead.{BadRead}
 use Rattle.tx_model.specs.declared.history.CommitEntry.{CommitEntry}
 use Rattle.ignite_types.specs.declared.journal.End.TheVariants as end
@@ -26,12 +26,12 @@ use Rattle.ignite_types.specs.declared.journal.Rec.TheVariants as note
 use Rattle.ignite_types.specs.declared.message.Message.TheVariants as msg
 
 -- the event's group stands before those of the later events
-abbrev pub goes_on : Event → Outcome → (World → List Group) → List Group
-goes_on e o later = record { event = e; recs = o.recs } ∷ later o.world
+abbrev pub then_group : Event → Outcome → (World → List Group) → List Group
+then_group e o later = record { event = e; recs = o.recs } ∷ later o.world
 
 abbrev pub from_event : World → Option Event → (World → List Group) → List Group
 from_event w None later = []
-from_event w (Some e) later = goes_on e (outcome w e) later
+from_event w (Some e) later = then_group e (outcome w e) later
 
 -- each event the first possible one, as long as one is possible, but so many at most
 abbrev pub groups : ℕ → World → List Group
@@ -52,15 +52,15 @@ abbrev pub answer_if : ℕ → ℕ → Answer → List Answer → List Answer
 answer_if session to a later = if to == session then a ∷ later else later
 
 -- what this session was answered
-abbrev pub answers_to : ℕ → List Rec → List Answer
-answers_to session [] = []
-answers_to session (note.Answer to a ∷ rs) = answer_if session to a (answers_to session rs)
-answers_to session (r ∷ rs) = answers_to session rs
+abbrev pub answers_of_session : ℕ → List Rec → List Answer
+answers_of_session session [] = []
+answers_of_session session (note.Answer to a ∷ rs) = answer_if session to a (answers_of_session session rs)
+answers_of_session session (r ∷ rs) = answers_of_session session rs
 
 -- what each of these sessions was answered, the first of which has this number
 abbrev pub answers_from : ℕ → List Session → List Rec → List (List Answer)
 answers_from number [] rs = []
-answers_from number (s ∷ sessions) rs = answers_to number rs ∷ answers_from (number + 1) sessions rs
+answers_from number (s ∷ sessions) rs = answers_of_session number rs ∷ answers_from (number + 1) sessions rs
 
 -- the decisions, whether made by the starter or in a recovery
 abbrev pub decisions : List Rec → List (TxId × Bool)
@@ -81,7 +81,7 @@ pub record Shown : Type 0 where
 abbrev pub shown_of : Scenario → List Group → Shown
 shown_of s gs = record {
   events = length gs;
-  ended = all_over (after (opening s) gs);
+  ended = all_sessions_over (world_after (opening s) gs);
   answers = answers_from 1 s.sessions (records gs);
   decided = decisions (records gs);
   history = commits gs;

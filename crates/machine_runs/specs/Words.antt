@@ -24,39 +24,39 @@ use Rattle.ignite_types.specs.declared.scenario.Step.TheVariants as step
 
 -- Names.
 
-abbrev pub key : String → Key
-key text = record { cache = 0; text = codes text }
+abbrev pub plain_key : String → Key
+plain_key text = record { cache = 0; text = codes text }
 
-abbrev pub node : ℕ → NodeId
-node number = record { 0 = number }
+abbrev pub numbered_node : ℕ → NodeId
+numbered_node number = record { 0 = number }
 
 abbrev pub version : ℕ → ℕ → TopVer
 version major minor = record { major = major; minor = minor }
 
 -- the session's transaction with this number, on this node
 abbrev pub tx : ℕ → ℕ → ℕ → TxId
-tx on session number = record { node = node on; session = session; number = number }
+tx on session_on number = record { node = numbered_node on; session = session_on; number = number }
 
 -- Scenarios.
 
-abbrev pub server : ℕ → Member
-server number = record { node = node number; server = true }
+abbrev pub numbered_server : ℕ → Member
+numbered_server number = record { node = numbered_node number; server = true }
 
-abbrev pub client : ℕ → Member
-client number = record { node = node number; server = false }
+abbrev pub numbered_client : ℕ → Member
+numbered_client number = record { node = numbered_node number; server = false }
 
 abbrev pub join : Member → Step
 join member = step.Join member
 
 abbrev pub lose : ℕ → Step
-lose number = step.Lose (node number)
+lose number = step.Lose (numbered_node number)
 
 -- the link from one node to another
 abbrev pub hold : ℕ → ℕ → Step
-hold from to = step.Hold (node from) (node to)
+hold from to = step.Hold (numbered_node from) (numbered_node to)
 
 abbrev pub release : ℕ → ℕ → Step
-release from to = step.Release (node from) (node to)
+release from to = step.Release (numbered_node from) (numbered_node to)
 
 abbrev pub from_moment : ℕ → Step → PlanStep
 from_moment moment s = record { moment = moment; step = s }
@@ -72,21 +72,21 @@ abbrev pub begin_optimistic : Item
 begin_optimistic = item.Plain (command.Begin mode.Optimistic 0)
 
 abbrev pub get : String → Item
-get text = item.Plain (command.Get (key text))
+get text = item.Plain (command.Get (plain_key text))
 
-abbrev pub put : String → String → Item
-put text value = item.Plain (command.Put (key text) (codes value))
+abbrev pub put_item : String → String → Item
+put_item text found_value = item.Plain (command.Put (plain_key text) (codes found_value))
 
 abbrev pub remove : String → Item
-remove text = item.Plain (command.Remove (key text))
+remove text = item.Plain (command.Remove (plain_key text))
 
 -- adds a number to the key's value
 abbrev pub give : String → ℕ → Item
-give text sum = item.Plain (command.Add (key text) (pos sum))
+give text sum = item.Plain (command.Add (plain_key text) (pos sum))
 
 -- adds its negative
 abbrev pub take : String → ℕ → Item
-take text sum = item.Plain (command.Add (key text) (pos 0 -ℤ pos sum))
+take text sum = item.Plain (command.Add (plain_key text) (pos 0 -ℤ pos sum))
 
 abbrev pub commit : Item
 commit = item.Plain command.Commit
@@ -94,8 +94,8 @@ commit = item.Plain command.Commit
 abbrev pub sleep : ℕ → Item
 sleep moments = item.Plain (command.Sleep moments)
 
-abbrev pub session : String → ℕ → List Item → Session
-session name on commands = record { name = codes name; node = node on; commands = commands }
+abbrev pub session_on : String → ℕ → List Item → Session
+session_on name on commands = record { name = codes name; node = numbered_node on; commands = commands }
 
 -- one cache with so many partitions and backups, and no near entries
 abbrev pub scenario : ℕ → ℕ → List Member → List PlanStep → List Session → Scenario
@@ -119,51 +119,51 @@ scenario parts backups nodes plan sessions = record {
 abbrev pub ok : Answer
 ok = answer.Done
 
-abbrev pub value : String → Answer
-value text = answer.Found (codes text)
+abbrev pub found_value : String → Answer
+found_value text = answer.Found (codes text)
 
 abbrev pub none : Answer
 none = answer.Absent
 
-abbrev pub committed : Answer
-committed = answer.Committed
+abbrev pub told_committed : Answer
+told_committed = answer.Committed
 
 abbrev pub skipped : Answer
 skipped = answer.Skipped
 
 -- the primary of one of its keys was lost
 abbrev pub node_lost : ℕ → Answer
-node_lost number = answer.Failed (fault.NodeLost (node number))
+node_lost number = answer.Failed (fault.NodeLost (numbered_node number))
 
-abbrev pub deadlock : Answer
-deadlock = answer.Failed fault.Deadlock
+abbrev pub told_deadlock : Answer
+told_deadlock = answer.Failed fault.Deadlock
 
 -- another transaction holds the key
 abbrev pub locked : String → TxId → Answer
-locked text holder = answer.Failed (fault.Check (fail.Candidate (key text) holder))
+locked text holder = answer.Failed (fault.Check (fail.Candidate (plain_key text) holder))
 
 -- the key was read with the order `had` and has the order `has`, both drawn at version 1.0 by node 1
-abbrev pub changed : String → ℕ → ℕ → Answer
-changed text had has = answer.Failed (fault.Check (fail.Changed
-    (key text)
-    (record { top = version 1 0; order = had; node = node 1 })
-    (record { top = version 1 0; order = has; node = node 1 })))
+abbrev pub told_changed : String → ℕ → ℕ → Answer
+told_changed text had has = answer.Failed (fault.Check (fail.Changed
+    (plain_key text)
+    (record { top = version 1 0; order = had; node = numbered_node 1 })
+    (record { top = version 1 0; order = has; node = numbered_node 1 })))
 
 -- a read or a write of a value
-abbrev pub holds : String → String → Key × Option (List ℕ)
-holds text value = (key text, Some (codes value))
+abbrev pub pair_of : String → String → Key × Option (List ℕ)
+pair_of text found_value = (plain_key text, Some (codes found_value))
 
 -- a read that found nothing, or a removal
 abbrev pub absent : String → Key × Option (List ℕ)
-absent text = (key text, None)
+absent text = (plain_key text, None)
 
-abbrev pub entry : TxId → TopVer → List (Key × Option (List ℕ)) → List (Key × Option (List ℕ)) → CommitEntry
-entry name top reads writes = record { tx = name; top = top; reads = reads; writes = writes }
+abbrev pub commit_entry : TxId → TopVer → List (Key × Option (List ℕ)) → List (Key × Option (List ℕ)) → CommitEntry
+commit_entry name top reads writes = record { tx = name; top = top; reads = reads; writes = writes }
 
 -- a transaction waits at a key for the one that holds it
 abbrev pub waits : String → TxId → TxId → Wait
-waits text waiter holder = record { key = key text; waiter = waiter; holder = holder }
+waits text waiter holder = record { key = plain_key text; waiter = waiter; holder = holder }
 
 -- a key of the map with its value
-abbrev pub kept : String → String → Key × List ℕ
-kept text value = (key text, codes value)
+abbrev pub map_pair : String → String → Key × List ℕ
+map_pair text found_value = (plain_key text, codes found_value)

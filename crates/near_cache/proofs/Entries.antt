@@ -6,12 +6,12 @@ use Rattle.std.specs.List.{find, AllByRecursion, IsDistinct}
 use Rattle.std.specs.Map.{keys_of, lookup, lookup_entry, remove_entry, set_value}
 use Rattle.std.specs.Option.{option_map_or}
 use Rattle.std.proofs.lemmas.Map.Keys.{IsDistinct-head, IsDistinct-tail}
-use Rattle.base_words.specs.declared.near.NearEntry.{NearEntry}
+use Rattle.part_model.specs.declared.near.NearEntry.{NearEntry}
 use Rattle.ignite_types.specs.declared.names.CacheVersion.{CacheVersion}
 use Rattle.ignite_types.specs.declared.text.Key.{Key}
 use Rattle.lru.specs.LruCache.{lru_cache, promoted, put_entries}
 use Rattle.lru.proofs.CallerLemmas.{Contains-lookup_entry}
-use Rattle.near_cache.specs.Kept.{entry_of, near_entries}
+use Rattle.near_cache.specs.Kept.{near_entries, near_entry_of}
 use Rattle.near_cache.specs.declared.near.Kept.{Kept}
 
 take_all : {X : Type 0} (n : ℕ) (xs : List X) → length xs ≤ n → take n xs ≡ xs
@@ -23,7 +23,7 @@ take_all (suc n) (x ∷ xs) le = ap (λ r. x ∷ r) (take_all n xs (omega arith)
 near_entries_take : (n : ℕ) (es : List (Key × Kept)) → near_entries (take n es) ≡ take n (near_entries es)
 near_entries_take zero es = refl
 near_entries_take (suc n) [] = refl
-near_entries_take (suc n) (e ∷ es) = ap (λ r. entry_of e ∷ r) (near_entries_take n es)
+near_entries_take (suc n) (e ∷ es) = ap (λ r. near_entry_of e ∷ r) (near_entries_take n es)
 
 near_entries_length : (es : List (Key × Kept)) → length (near_entries es) ≡ length es
 near_entries_length [] = refl
@@ -68,9 +68,9 @@ module _ (same : Key → Key → Bool) (laws : IsEquivalence same) (exact : (a b
   ]) refl
 
   -- a look-up by key
-  entry_at : (es : List (Key × Kept)) → find (λ (n : NearEntry). same n.key k) (near_entries es) ≡ option_map entry_of (lookup_entry (same k) es)
+  entry_at : (es : List (Key × Kept)) → find (λ (n : NearEntry). same n.key k) (near_entries es) ≡ option_map near_entry_of (lookup_entry (same k) es)
   entry_at [] = refl
-  entry_at (e ∷ es) = (elim (same k e.0) as (λ b. same k e.0 ≡ b → find (λ (n : NearEntry). same n.key k) (near_entries (e ∷ es)) ≡ option_map entry_of (cond b (Some e) (lookup_entry (same k) es))) [
+  entry_at (e ∷ es) = (elim (same k e.0) as (λ b. same k e.0 ≡ b → find (λ (n : NearEntry). same n.key k) (near_entries (e ∷ es)) ≡ option_map near_entry_of (cond b (Some e) (lookup_entry (same k) es))) [
     | true ↦ λ h. rw (laws.symm e.0 k ∙ h)
     | false ↦ λ h. rw (laws.symm e.0 k ∙ h) (entry_at es)
   ]) refl
@@ -85,36 +85,36 @@ module _ (same : Key → Key → Bool) (laws : IsEquivalence same) (exact : (a b
   -- the entries of other keys
   all_others : (es : List (Key × Kept)) → NoneHas es → filter (λ (n : NearEntry). not (same n.key k)) (near_entries es) ≡ near_entries es
   all_others [] none = refl
-  all_others (e ∷ es) none = rw (laws.symm e.0 k ∙ none.0) (ap (λ r. entry_of e ∷ r) (all_others es none.1))
+  all_others (e ∷ es) none = rw (laws.symm e.0 k ∙ none.0) (ap (λ r. near_entry_of e ∷ r) (all_others es none.1))
 
   others : (es : List (Key × Kept)) → IsDistinct same (keys_of es) → filter (λ (n : NearEntry). not (same n.key k)) (near_entries es) ≡ near_entries (remove_entry (same k) es)
   others [] d = refl
   others (e ∷ es) d = (elim (same k e.0) as (λ b. same k e.0 ≡ b → filter (λ (n : NearEntry). not (same n.key k)) (near_entries (e ∷ es)) ≡ near_entries (cond b es (e ∷ remove_entry (same k) es))) [
     | true ↦ λ h. rw (laws.symm e.0 k ∙ h) (all_others es (none_later e es h d))
-    | false ↦ λ h. rw (laws.symm e.0 k ∙ h) (ap (λ r. entry_of e ∷ r) (others es (IsDistinct-tail same e.0 (keys_of es) d)))
+    | false ↦ λ h. rw (laws.symm e.0 k ∙ h) (ap (λ r. near_entry_of e ∷ r) (others es (IsDistinct-tail same e.0 (keys_of es) d)))
   ]) refl
 
-  front_at : (es : List (Key × Kept)) (o : Option (Key × Kept)) → IsDistinct same (keys_of es) → lookup_entry (same k) es ≡ o → option_map_or (λ (n : NearEntry). n ∷ filter (λ (m : NearEntry). not (same m.key n.key)) (near_entries es)) (option_map entry_of o) (near_entries es) ≡ near_entries (option_map_or (λ e. e ∷ remove_entry (same k) es) o es)
+  front_at : (es : List (Key × Kept)) (o : Option (Key × Kept)) → IsDistinct same (keys_of es) → lookup_entry (same k) es ≡ o → option_map_or (λ (n : NearEntry). n ∷ filter (λ (m : NearEntry). not (same m.key n.key)) (near_entries es)) (option_map near_entry_of o) (near_entries es) ≡ near_entries (option_map_or (λ e. e ∷ remove_entry (same k) es) o es)
   front_at es None d found = refl
   front_at es (Some e) d found =
       let key : k ≡ e.0 = exact k e.0 (Contains-lookup_entry (same k) es e found).1 in
-      ap (λ r. entry_of e ∷ r) (subst (λ j. filter (λ (m : NearEntry). not (same m.key j)) (near_entries es) ≡ near_entries (remove_entry (same k) es)) key (others es d))
+      ap (λ r. near_entry_of e ∷ r) (subst (λ j. filter (λ (m : NearEntry). not (same m.key j)) (near_entries es) ≡ near_entries (remove_entry (same k) es)) key (others es d))
 
   -- the entry of the key comes to the front
   pub front : (es : List (Key × Kept)) → IsDistinct same (keys_of es) → option_map_or (λ (n : NearEntry). n ∷ filter (λ (m : NearEntry). not (same m.key n.key)) (near_entries es)) (find (λ (n : NearEntry). same n.key k) (near_entries es)) (near_entries es) ≡ near_entries (promoted (same k) es)
   front es d = rw (entry_at es) (front_at es (lookup_entry (same k) es) d refl)
 
-  put_at : (es : List (Key × Kept)) (v : Kept) (m : ℕ) (o : Option (Key × Kept)) → length es ≤ suc m → lookup_entry (same k) es ≡ o → entry_of (k, v) ∷ take m (near_entries (remove_entry (same k) es)) ≡ near_entries (option_map_or (λ e. (e.0, v) ∷ remove_entry (same k) es) o ((k, v) ∷ take m es))
+  put_at : (es : List (Key × Kept)) (v : Kept) (m : ℕ) (o : Option (Key × Kept)) → length es ≤ suc m → lookup_entry (same k) es ≡ o → near_entry_of (k, v) ∷ take m (near_entries (remove_entry (same k) es)) ≡ near_entries (option_map_or (λ e. (e.0, v) ∷ remove_entry (same k) es) o ((k, v) ∷ take m es))
   put_at es v m None le found =
-      ap (λ r. entry_of (k, v) ∷ r) (rw (remove_none es found) (sym (near_entries_take m es)))
+      ap (λ r. near_entry_of (k, v) ∷ r) (rw (remove_none es found) (sym (near_entries_take m es)))
   put_at es v m (Some e) le found =
       let key : k ≡ e.0 = exact k e.0 (Contains-lookup_entry (same k) es e found).1 in
       let room : length (near_entries (remove_entry (same k) es)) ≤ m = omega (arith, near_entries_length (remove_entry (same k) es), length_remove es e found) in
-      subst (λ j. entry_of (k, v) ∷ take m (near_entries (remove_entry (same k) es)) ≡ entry_of (j, v) ∷ near_entries (remove_entry (same k) es)) key
-      (ap (λ r. entry_of (k, v) ∷ r) (take_all m (near_entries (remove_entry (same k) es)) room))
+      subst (λ j. near_entry_of (k, v) ∷ take m (near_entries (remove_entry (same k) es)) ≡ near_entry_of (j, v) ∷ near_entries (remove_entry (same k) es)) key
+      (ap (λ r. near_entry_of (k, v) ∷ r) (take_all m (near_entries (remove_entry (same k) es)) room))
 
   -- an entry is put in front
-  pub put_front : (es : List (Key × Kept)) (v : Kept) (size : ℕ) → IsDistinct same (keys_of es) → length es ≤ size → 0 < size → take size (entry_of (k, v) ∷ filter (λ (n : NearEntry). not (same n.key k)) (near_entries es)) ≡ near_entries (put_entries same (lru_cache es size) k v)
+  pub put_front : (es : List (Key × Kept)) (v : Kept) (size : ℕ) → IsDistinct same (keys_of es) → length es ≤ size → 0 < size → take size (near_entry_of (k, v) ∷ filter (λ (n : NearEntry). not (same n.key k)) (near_entries es)) ≡ near_entries (put_entries same (lru_cache es size) k v)
   put_front es v zero d le room = absurd (omega arith)
   put_front es v (suc m) d le room =
       let less : suc m - 1 ≡ m = omega arith in
@@ -135,7 +135,7 @@ module _ (same : Key → Key → Bool) (laws : IsEquivalence same) (exact : (a b
 
     none_removed : (es : List (Key × Kept)) → NoneHas es → filter (λ (n : NearEntry). not (is_older n)) (near_entries es) ≡ near_entries es
     none_removed [] none = refl
-    none_removed (e ∷ es) none = rw (laws.symm e.0 k ∙ none.0) (ap (λ r. entry_of e ∷ r) (none_removed es none.1))
+    none_removed (e ∷ es) none = rw (laws.symm e.0 k ∙ none.0) (ap (λ r. near_entry_of e ∷ r) (none_removed es none.1))
 
     -- a removal takes an older entry out
     pub removal : (es : List (Key × Kept)) → IsDistinct same (keys_of es) → filter (λ (n : NearEntry). not (is_older n)) (near_entries es) ≡ cond (older_at es) (near_entries (remove_entry (same k) es)) (near_entries es)
@@ -144,23 +144,23 @@ module _ (same : Key → Key → Bool) (laws : IsEquivalence same) (exact : (a b
       | true ↦ λ h.
           let rest = none_removed es (none_later e es h d) in
           rw (laws.symm e.0 k ∙ h)
-          (elim (lower e.1.ver) as (λ b. cond (not b) (entry_of e ∷ filter (λ (n : NearEntry). not (is_older n)) (near_entries es)) (filter (λ (n : NearEntry). not (is_older n)) (near_entries es)) ≡ cond b (near_entries es) (near_entries (e ∷ es))) [
+          (elim (lower e.1.ver) as (λ b. cond (not b) (near_entry_of e ∷ filter (λ (n : NearEntry). not (is_older n)) (near_entries es)) (filter (λ (n : NearEntry). not (is_older n)) (near_entries es)) ≡ cond b (near_entries es) (near_entries (e ∷ es))) [
             | true ↦ rest
-            | false ↦ ap (λ r. entry_of e ∷ r) rest
+            | false ↦ ap (λ r. near_entry_of e ∷ r) rest
           ])
       | false ↦ λ h.
           rw (laws.symm e.0 k ∙ h)
-          (ap (λ r. entry_of e ∷ r) (removal es (IsDistinct-tail same e.0 (keys_of es) d))
-          ∙ under_cond (λ r. entry_of e ∷ r) (older_at es) (near_entries (remove_entry (same k) es)) (near_entries es))
+          (ap (λ r. near_entry_of e ∷ r) (removal es (IsDistinct-tail same e.0 (keys_of es) d))
+          ∙ under_cond (λ r. near_entry_of e ∷ r) (older_at es) (near_entries (remove_entry (same k) es)) (near_entries es))
     ]) refl
 
     module _ (w : Kept) where
       abbrev renewed_at : NearEntry → NearEntry
-      renewed_at n = cond (is_older n) (entry_of (k, w)) n
+      renewed_at n = cond (is_older n) (near_entry_of (k, w)) n
 
       none_renewed : (es : List (Key × Kept)) → NoneHas es → map renewed_at (near_entries es) ≡ near_entries es
       none_renewed [] none = refl
-      none_renewed (e ∷ es) none = rw (laws.symm e.0 k ∙ none.0) (ap (λ r. entry_of e ∷ r) (none_renewed es none.1))
+      none_renewed (e ∷ es) none = rw (laws.symm e.0 k ∙ none.0) (ap (λ r. near_entry_of e ∷ r) (none_renewed es none.1))
 
       -- an update renews an older entry at its place
       pub renewal : (es : List (Key × Kept)) → IsDistinct same (keys_of es) → map renewed_at (near_entries es) ≡ cond (older_at es) (near_entries (set_value (same k) es w)) (near_entries es)
@@ -170,12 +170,12 @@ module _ (same : Key → Key → Bool) (laws : IsEquivalence same) (exact : (a b
             let rest = none_renewed es (none_later e es h d) in
             let key : k ≡ e.0 = exact k e.0 h in
             rw (laws.symm e.0 k ∙ h)
-            (elim (lower e.1.ver) as (λ b. cond b (entry_of (k, w)) (entry_of e) ∷ map renewed_at (near_entries es) ≡ cond b (near_entries ((e.0, w) ∷ es)) (near_entries (e ∷ es))) [
-              | true ↦ subst (λ j. entry_of (k, w) ∷ map renewed_at (near_entries es) ≡ entry_of (j, w) ∷ near_entries es) key (ap (λ r. entry_of (k, w) ∷ r) rest)
-              | false ↦ ap (λ r. entry_of e ∷ r) rest
+            (elim (lower e.1.ver) as (λ b. cond b (near_entry_of (k, w)) (near_entry_of e) ∷ map renewed_at (near_entries es) ≡ cond b (near_entries ((e.0, w) ∷ es)) (near_entries (e ∷ es))) [
+              | true ↦ subst (λ j. near_entry_of (k, w) ∷ map renewed_at (near_entries es) ≡ near_entry_of (j, w) ∷ near_entries es) key (ap (λ r. near_entry_of (k, w) ∷ r) rest)
+              | false ↦ ap (λ r. near_entry_of e ∷ r) rest
             ])
         | false ↦ λ h.
             rw (laws.symm e.0 k ∙ h)
-            (ap (λ r. entry_of e ∷ r) (renewal es (IsDistinct-tail same e.0 (keys_of es) d))
-            ∙ under_cond (λ r. entry_of e ∷ r) (older_at es) (near_entries (set_value (same k) es w)) (near_entries es))
+            (ap (λ r. near_entry_of e ∷ r) (renewal es (IsDistinct-tail same e.0 (keys_of es) d))
+            ∙ under_cond (λ r. near_entry_of e ∷ r) (older_at es) (near_entries (set_value (same k) es w)) (near_entries es))
       ]) refl

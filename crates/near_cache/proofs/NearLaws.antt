@@ -6,13 +6,13 @@ use Rattle.std.specs.Map.{keys_of, lookup, remove_entry, set_value}
 use Rattle.std.proofs.lemmas.Bool.{eqb-true}
 use Rattle.std.proofs.lemmas.Cmp.{nat_list_eq_equiv}
 use Rattle.std.proofs.lemmas.Map.Keys.{IsDistinct-head, IsDistinct-tail}
-use Rattle.base_words.specs.NearEntries.{near_put, near_updated}
-use Rattle.base_words.specs.Orders.{is_lower}
+use Rattle.part_model.specs.NearEntries.{near_put, near_updated}
+use Rattle.part_model.specs.Orders.{is_lower}
 use Rattle.ignite_types.specs.Names.{same_key}
 use Rattle.ignite_types.specs.declared.names.CacheVersion.{CacheVersion}
 use Rattle.ignite_types.specs.declared.text.Key.{Key}
 use Rattle.lru.specs.LruCache.{LruCache, IsValid, lru_cache, promoted, put_entries}
-use Rattle.near_cache.specs.Kept.{entry_of, has_older, near_entries}
+use Rattle.near_cache.specs.Kept.{has_older, near_entries, near_entry_of}
 use Rattle.near_cache.specs.Sized.{after_hit, hit}
 use Rattle.near_cache.specs.declared.near.Kept.{Kept}
 use Rattle.near_cache.proofs.Entries as entries
@@ -52,7 +52,7 @@ hit_some es k v some = hit_kept es k ∙ rw some refl
 pub hit_front : (c : LruCache Key Kept) (k : Key) → IsValid same_key c → after_hit (near_entries c.entries) k ≡ near_entries (promoted (same_key k) c.entries)
 hit_front c k valid = entries.front same_key key_equiv key_exact k c.entries valid.0
 
-pub put_kept : (c : LruCache Key Kept) (k : Key) (v : Kept) → IsValid same_key c → near_put c.cap (near_entries c.entries) (entry_of (k, v)) ≡ near_entries (put_entries same_key c k v)
+pub put_kept : (c : LruCache Key Kept) (k : Key) (v : Kept) → IsValid same_key c → near_put c.cap (near_entries c.entries) (near_entry_of (k, v)) ≡ near_entries (put_entries same_key c k v)
 put_kept c k v valid = entries.put_front same_key key_equiv key_exact k c.entries v c.cap valid.0 valid.1 valid.2
 
 under : {X : Type 0} (b c : Bool) (x y : X) → b ≡ c → cond b x y ≡ cond c x y

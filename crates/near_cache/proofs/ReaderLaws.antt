@@ -6,8 +6,8 @@ use Rattle.std.specs.Ordering.{match_ordering, ordering_reverse}
 use Rattle.std.specs.declared.cmp.Ordering.{Ordering}
 use Rattle.std.specs.declared.cmp.Ordering.TheVariants.{Less, Equal, Greater}
 use Rattle.std.proofs.lemmas.Cmp.{nat_cmp_total, nat_list_cmp_total, tied_itself}
-use Rattle.base_words.specs.NearEntries.{Readers, reader_gone, readers_without, with_reader, without_reader}
-use Rattle.base_words.specs.Tables.{keys_in}
+use Rattle.part_model.specs.NearEntries.{Readers, with_reader, without_reader, without_reader_of, without_reader_of_each}
+use Rattle.part_model.specs.Tables.{keys_in}
 use Rattle.ignite_types.specs.Names.{key_cmp, node_cmp}
 use Rattle.ignite_types.specs.declared.names.NodeId.{NodeId}
 use Rattle.ignite_types.specs.declared.text.Key.{Key}
@@ -87,9 +87,9 @@ module _ {K V : Type 0} (cmp : K → K → Ordering) (o : IsTotalOrder cmp) wher
         ∙ changed_behind (e.0, change e.1) es (keys_in es) (all_above e.0 es ascending.0)
         ∙ ap (λ r. (e.0, change e.1) ∷ r) (changed_all es ascending.1)
 
-gone_each : (readers : Readers) (ks : List Key) (node : NodeId) → readers_without readers ks node ≡ changed_each key_cmp key_total (λ (nodes : List NodeId). without_member node_cmp nodes node) [] readers ks
+gone_each : (readers : Readers) (ks : List Key) (node : NodeId) → without_reader_of_each readers ks node ≡ changed_each key_cmp key_total (λ (nodes : List NodeId). without_member node_cmp nodes node) [] readers ks
 gone_each readers [] node = refl
-gone_each readers (k ∷ ks) node = gone_each (reader_gone readers k node) ks node
+gone_each readers (k ∷ ks) node = gone_each (without_reader_of readers k node) ks node
 
 -- a lost node is taken out of the readers of each key
 pub reader_lost : (readers : Readers) (node : NodeId) → IsAscending key_cmp readers → without_reader readers node ≡ map (λ (e : Key × List NodeId). (e.0, without_member node_cmp e.1 node)) readers

@@ -1,8 +1,8 @@
 -- A near cache with its size, and what a hit answers and does.
 use Rattle.std.specs.Prelude.{Option, List, ℕ, option_map}
 use Rattle.std.specs.Option.{option_map_or}
-use Rattle.base_words.specs.NearEntries.{NearCache, near_entry, near_front}
-use Rattle.base_words.specs.declared.near.NearEntry.{NearEntry}
+use Rattle.part_model.specs.NearEntries.{NearCache, near_entry, near_front}
+use Rattle.part_model.specs.declared.near.NearEntry.{NearEntry}
 use Rattle.ignite_types.specs.declared.names.CacheVersion.{CacheVersion}
 use Rattle.ignite_types.specs.declared.text.Key.{Key}
 

@@ -3,7 +3,7 @@
 ghost use Rattle.std.specs.Prelude.{◌≡◌, ◌<◌, [], IfOk, OnErr, OnOk};
 ghost use Rattle.std.specs.Map.{set_value};
 ghost use Rattle.std.specs.NonZero.{non_zero_usize_get};
-ghost use Rattle.base_words.specs.NearEntries.{near_put, near_updated};
+ghost use Rattle.part_model.specs.NearEntries.{near_put, near_updated};
 ghost use Rattle.ignite_types.specs.Names.{same_key};
 ghost use Rattle.lru.specs.LruCache.{lru_cache};
 ghost use Rattle.near_cache.specs.Kept.{has_older};

@@ -1,7 +1,7 @@
 //! The nodes to which a primary sends the updates of its keys.
 
 ghost use Rattle.std.specs.Prelude.{◌≡◌, [], IfOk, OnErr, OnOk};
-ghost use Rattle.base_words.specs.NearEntries.{readers_of, with_reader, without_reader};
+ghost use Rattle.part_model.specs.NearEntries.{readers_of, with_reader, without_reader};
 
 use hash_table::{EntryChange, HashTable};
 use ignite_types::{Key, Mem, NodeId};
@@ -36,7 +36,7 @@ pub struct Readers {
 }
 
 impl Model for Readers {
-    ghost use Rattle.base_words.specs.NearEntries.{Readers as ByKey};
+    ghost use Rattle.part_model.specs.NearEntries.{Readers as ByKey};
 
     ghost Value = { ByKey };
 

@@ -1,15 +1,15 @@
 //! Accesses of a transaction whose version is fixed.
 
 ghost use Rattle.std.specs.Prelude.{◌≡◌, OnOk, Some};
-ghost use Rattle.base_words.specs.NearEntries.{near_entry};
-ghost use Rattle.act_rows.specs.Accesses.{access_done, access_refused, accesses, accesses_at, adds, does, does_known, is_near, near_hit, new_access, new_key, optimistic_access, optimistic_read};
+ghost use Rattle.part_model.specs.NearEntries.{near_entry};
+ghost use Rattle.act_rows.specs.Accesses.{after_access, after_access_at, after_access_done, after_access_refused, after_add, after_known_access, after_near_hit, after_new_access, after_new_key, after_optimistic_access, after_optimistic_read, after_run_command, is_near_kept};
 ghost use Rattle.act_rows.specs.Steps.{entry_of, near_of};
 
 use crate::entries::{ask_lock, ask_value, keep_read, keep_write, set_outcome, touch, value_at};
 use crate::nears::{near_entry, near_of, put_near, with_front};
 use crate::preparing::commit;
 use crate::values::{access_key, answer_of};
-use base_words::NearEntry;
+use part_model::NearEntry;
 use ignite_types::{Answer, Command, Fault, Key, Mem, Message, Mode, NodeId, TopVer, TxId, Value};
 use node_state::Read;
 use node_steps::Node;
@@ -21,7 +21,7 @@ const MOST_KEYS: usize = 64;
 
 /// An access is done: in a block it is answered, a bare one is committed first.
 fn access_done(node: &mut Node, tx: TxId, top: TopVer, block: bool, answer: &Answer) -> Mem<()>
-    ensures { OnOk result (node.new ≡ access_done node.old tx top block answer.now) }
+    ensures { OnOk result (node.new ≡ after_access_done node.old tx top block answer.now) }
 {
     if block {
         node.answer(tx.session, *answer)
@@ -33,7 +33,7 @@ fn access_done(node: &mut Node, tx: TxId, top: TopVer, block: bool, answer: &Ans
 
 /// An access can't be done: a block goes on, a bare one is rolled back first.
 fn access_refused(node: &mut Node, tx: TxId, block: bool, answer: &Answer) -> Mem<()>
-    ensures { OnOk result (node.new ≡ access_refused node.old tx block answer.now) }
+    ensures { OnOk result (node.new ≡ after_access_refused node.old tx block answer.now) }
 {
     if block {
         node.answer(tx.session, *answer)
@@ -51,7 +51,7 @@ fn add(
     key: &Key,
     sum: &Result<Value, Answer>,
 ) -> Mem<()>
-    ensures { OnOk result (node.new ≡ adds node.old tx top block key.now sum.now) }
+    ensures { OnOk result (node.new ≡ after_add node.old tx top block key.now sum.now) }
 {
     match sum {
         Ok(value) => {
@@ -70,7 +70,7 @@ pub(crate) fn do_known(
     block: bool,
     command: &Command,
 ) -> Mem<()>
-    ensures { OnOk result (node.new ≡ does_known node.old tx top block command.now) }
+    ensures { OnOk result (node.new ≡ after_known_access node.old tx top block command.now) }
 {
     match command {
         Command::Get(key) => {
@@ -95,14 +95,14 @@ pub(crate) fn do_known(
 
 /// Whether what a Get of the key finds is to be kept in the near cache.
 fn is_near(node: &Node, key: &Key) -> bool
-    ensures { result ≡ is_near node.now key.now }
+    ensures { result ≡ is_near_kept node.now key.now }
 {
     node.near_size(key) != 0 && !node.holds(node.state.me, key)
 }
 
 /// A near entry is used: it comes to the front and counts as read.
 fn use_near(node: &mut Node, tx: TxId, key: &Key, entry: &NearEntry) -> Mem<()>
-    ensures { OnOk result (node.new ≡ near_hit node.old tx key.now entry.now) }
+    ensures { OnOk result (node.new ≡ after_near_hit node.old tx key.now entry.now) }
 {
     let next = with_front(node.alloc, near_of(node, key), entry)?;
     put_near(node, key, next)?;
@@ -123,7 +123,7 @@ fn optimistic_read(
     key: &Key,
     primary: NodeId,
 ) -> Mem<()>
-    ensures { OnOk result (node.new ≡ optimistic_read node.old tx top block command.now key.now primary (near_entry (near_of node.old key.now) key.now)) }
+    ensures { OnOk result (node.new ≡ after_optimistic_read node.old tx top block command.now key.now primary (near_entry (near_of node.old key.now) key.now)) }
 {
     match near_entry(near_of(node, key), key) {
         Some(entry) => {
@@ -149,7 +149,7 @@ fn optimistic_access(
     key: &Key,
     primary: NodeId,
 ) -> Mem<()>
-    ensures { OnOk result (node.new ≡ optimistic_access node.old tx top block command.now key.now primary) }
+    ensures { OnOk result (node.new ≡ after_optimistic_access node.old tx top block command.now key.now primary) }
 {
     match command {
         Command::Get(_) | Command::Add(_, _) => {
@@ -173,7 +173,7 @@ fn new_access(
     primary: NodeId,
     mode: Mode,
 ) -> Mem<()>
-    ensures { OnOk result (node.new ≡ new_access node.old tx top block command.now key.now primary mode) }
+    ensures { OnOk result (node.new ≡ after_new_access node.old tx top block command.now key.now primary mode) }
 {
     match mode {
         Mode::Pessimistic => {
@@ -194,7 +194,7 @@ fn access(
     command: &Command,
     key: &Key,
 ) -> Mem<()>
-    ensures { OnOk result (node.new ≡ accesses node.old tx top block command.now key.now (entry_of node.old tx)) }
+    ensures { OnOk result (node.new ≡ after_access node.old tx top block command.now key.now (entry_of node.old tx)) }
 {
     let Some(entry) = node.entry(&tx) else {
         return Ok(());
@@ -216,7 +216,7 @@ fn access(
 
 /// A command of a transaction whose version is fixed, in a block or bare.
 pub fn does(node: &mut Node, tx: TxId, top: TopVer, block: bool, command: &Command) -> Mem<()>
-    ensures { OnOk result (node.new ≡ does node.old tx top block command.now) }
+    ensures { OnOk result (node.new ≡ after_run_command node.old tx top block command.now) }
 {
     match access_key(command) {
         Some(key) => access(node, tx, top, block, command, &key),

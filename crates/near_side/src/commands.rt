@@ -1,8 +1,8 @@
 //! How a session's commands are taken.
 
 ghost use Rattle.std.specs.Prelude.{◌≡◌, OnOk};
-ghost use Rattle.act_rows.specs.Commands.{access_row, begins, call_row, command_row, deadline_at, end_row, in_sound, in_transaction, later, next_tx, opens, pends, skips_end, sleeps};
-ghost use Rattle.act_rows.specs.Steps.{desk_of, entry_of};
+ghost use Rattle.act_rows.specs.Commands.{after_access_command, after_begin, after_call, after_command, after_command_in_transaction, after_command_without_fault, after_end_command, after_open_tx, after_skip_end, after_sleep, deadline_at, moment_after, next_tx, with_pending};
+ghost use Rattle.act_rows.specs.Steps.{entry_of, session_state_of};
 
 use crate::access::does;
 use crate::sessions::call_at;
@@ -13,7 +13,7 @@ use tx_decisions::{decide, tell};
 
 /// The sum of two moments, which stands still at the end of its type.
 fn later(now: u64, moments: u64) -> u64
-    ensures { result ≡ later now moments }
+    ensures { result ≡ moment_after now moments }
 {
     now.saturating_add(moments)
 }
@@ -43,17 +43,17 @@ fn next_tx(node: &Node, session: u32, started: u64) -> TxId
 /// A new transaction, of a block or of one access.
 #[tactic(auto, using(act_rows::proofs::TableLaws::nat_put_put))]
 fn open(node: &mut Node, tx: TxId, mode: Mode, deadline: Option<u64>, block: bool) -> Mem<()>
-    ensures { OnOk result (node.new ≡ opens node.old tx mode deadline block) }
+    ensures { OnOk result (node.new ≡ after_open_tx node.old tx mode deadline block) }
 {
     node.put_entry(tx, new_entry(node.alloc, mode, deadline))?;
-    let Some(mut desk) = node.take_desk(tx.session) else {
+    let Some(mut session_state) = node.take_session_state(tx.session) else {
         return Ok(());
     };
-    desk.tx = Some(tx);
-    desk.block = block;
-    desk.skipping = false;
-    desk.started = tx.number;
-    node.put_desk(tx.session, desk)
+    session_state.tx = Some(tx);
+    session_state.block = block;
+    session_state.skipping = false;
+    session_state.started = tx.number;
+    node.put_session_state(tx.session, session_state)
 }
 
 /// Begin: a new block, unless a transaction is open or has a fault that is not told yet.
@@ -65,7 +65,7 @@ fn begin(
     timeout: u64,
     tx: Option<TxId>,
 ) -> Mem<()>
-    ensures { OnOk result (node.new ≡ begins node.old session started mode timeout tx) }
+    ensures { OnOk result (node.new ≡ after_begin node.old session started mode timeout tx) }
 {
     match tx {
         Some(_) => node.answer(session, Answer::TransactionOpen),
@@ -86,7 +86,7 @@ fn in_sound(
     command: &Command,
     top: Option<TopVer>,
 ) -> Mem<()>
-    ensures { OnOk result (node.new ≡ in_sound node.old tx block command.now top) }
+    ensures { OnOk result (node.new ≡ after_command_without_fault node.old tx block command.now top) }
 {
     match (command, top) {
         (Command::Rollback, _) => decide(node, tx, false),
@@ -98,7 +98,7 @@ fn in_sound(
 
 /// A command of the open transaction: a fault that was not told yet is told once the rollback has ended.
 fn in_transaction(node: &mut Node, tx: TxId, block: bool, command: &Command) -> Mem<()>
-    ensures { OnOk result (node.new ≡ in_transaction node.old tx block command.now (entry_of node.old tx)) }
+    ensures { OnOk result (node.new ≡ after_command_in_transaction node.old tx block command.now (entry_of node.old tx)) }
 {
     let Some(entry) = node.entry(&tx) else {
         return Ok(());
@@ -123,7 +123,7 @@ fn on_access(
     tx: Option<TxId>,
     skipping: bool,
 ) -> Mem<()>
-    ensures { OnOk result (node.new ≡ access_row node.old session started block command.now tx skipping) }
+    ensures { OnOk result (node.new ≡ after_access_command node.old session started block command.now tx skipping) }
 {
     match tx {
         Some(tx) => in_transaction(node, tx, block, command),
@@ -141,14 +141,14 @@ fn on_access(
 /// The block whose fault was told is over.
 #[tactic(auto, using(act_rows::proofs::TableLaws::nat_put_put))]
 fn skip_end(node: &mut Node, session: u32) -> Mem<()>
-    ensures { OnOk result (node.new ≡ skips_end node.old session) }
+    ensures { OnOk result (node.new ≡ after_skip_end node.old session) }
 {
-    let Some(mut desk) = node.take_desk(session) else {
+    let Some(mut session_state) = node.take_session_state(session) else {
         return Ok(());
     };
-    desk.skipping = false;
-    desk.ready = Some(Answer::Skipped);
-    node.put_desk(session, desk)
+    session_state.skipping = false;
+    session_state.ready = Some(Answer::Skipped);
+    node.put_session_state(session, session_state)
 }
 
 /// Commit, rollback and close: of the open transaction; skipped after a told fault; or of none.
@@ -160,7 +160,7 @@ fn on_end(
     tx: Option<TxId>,
     skipping: bool,
 ) -> Mem<()>
-    ensures { OnOk result (node.new ≡ end_row node.old session block command.now tx skipping) }
+    ensures { OnOk result (node.new ≡ after_end_command node.old session block command.now tx skipping) }
 {
     match tx {
         Some(tx) => in_transaction(node, tx, block, command),
@@ -176,26 +176,26 @@ fn on_end(
 
 #[tactic(auto, using(act_rows::proofs::TableLaws::nat_put_put))]
 fn sleep(node: &mut Node, session: u32, moments: u64) -> Mem<()>
-    ensures { OnOk result (node.new ≡ sleeps node.old session moments) }
+    ensures { OnOk result (node.new ≡ after_sleep node.old session moments) }
 {
     let wake = later(node.state.now, moments);
-    let Some(mut desk) = node.take_desk(session) else {
+    let Some(mut session_state) = node.take_session_state(session) else {
         return Ok(());
     };
-    desk.wake = Some(wake);
-    node.put_desk(session, desk)
+    session_state.wake = Some(wake);
+    node.put_session_state(session, session_state)
 }
 
 /// The command waits for its answer from now on.
 #[tactic(auto, using(act_rows::proofs::TableLaws::nat_put_put))]
 fn pend(node: &mut Node, session: u32, command: &Command) -> Mem<()>
-    ensures { OnOk result (node.new ≡ pends node.old session command.now) }
+    ensures { OnOk result (node.new ≡ with_pending node.old session command.now) }
 {
-    let Some(mut desk) = node.take_desk(session) else {
+    let Some(mut session_state) = node.take_session_state(session) else {
         return Ok(());
     };
-    desk.pending = Some(*command);
-    node.put_desk(session, desk)
+    session_state.pending = Some(*command);
+    node.put_session_state(session, session_state)
 }
 
 /// A command, by what its session stands at.
@@ -208,7 +208,7 @@ fn on_command(
     tx: Option<TxId>,
     command: &Command,
 ) -> Mem<()>
-    ensures { OnOk result (node.new ≡ command_row node.old session started block skipping tx command.now) }
+    ensures { OnOk result (node.new ≡ after_command node.old session started block skipping tx command.now) }
 {
     match command {
         Command::Begin(mode, timeout) => begin(node, session, started, *mode, *timeout, tx),
@@ -222,18 +222,18 @@ fn on_command(
 
 /// The session gives its next command, which is noted and pending, and then its row is done.
 pub fn on_call(node: &mut Node, session: u32) -> Mem<()>
-    ensures { OnOk result (node.new ≡ call_row node.old session) }
+    ensures { OnOk result (node.new ≡ after_call node.old session) }
 {
     let Some(command) = call_at(node, session) else {
         return Ok(());
     };
-    let Some(desk) = node.desk(session) else {
+    let Some(session_state) = node.session_state(session) else {
         return Ok(());
     };
-    let started = desk.started;
-    let block = desk.block;
-    let skipping = desk.skipping;
-    let tx = desk.tx;
+    let started = session_state.started;
+    let block = session_state.block;
+    let skipping = session_state.skipping;
+    let tx = session_state.tx;
     pend(node, session, &command)?;
     node.note(Rec::Call { session, command })?;
     on_command(node, session, started, block, skipping, tx, &command)

@@ -1,8 +1,8 @@
 //! Small steps on a transaction's entry; nothing where there is none.
 
 ghost use Rattle.std.specs.Prelude.{◌≡◌, OnOk};
-ghost use Rattle.act_rows.specs.Accesses.{asks_lock, asks_value, got_value, keeps_read, keeps_write, no_longer, takes_outcome, takes_state, touches, value_at};
-ghost use Rattle.act_rows.specs.Starts.{fixes_version};
+ghost use Rattle.act_rows.specs.Accesses.{value_at, with_lock_asked, with_outcome, with_read, with_touched, with_tx_state, with_value_asked, with_write, without_awaited, without_getting};
+ghost use Rattle.act_rows.specs.Starts.{with_version};
 ghost use Rattle.act_rows.specs.Steps.{entry_of};
 
 use crate::values::value_before;
@@ -22,7 +22,7 @@ pub(crate) fn value_at(node: &Node, tx: &TxId, key: &Key) -> Option<Value>
 
 #[tactic(auto, using(act_rows::proofs::TableLaws::tx_put_put))]
 pub(crate) fn keep_read(node: &mut Node, tx: TxId, key: &Key, read: Read) -> Mem<()>
-    ensures { OnOk result (node.new ≡ keeps_read node.old tx key.now read) }
+    ensures { OnOk result (node.new ≡ with_read node.old tx key.now read) }
 {
     let Some(mut entry) = node.take_entry(tx) else {
         return Ok(());
@@ -33,7 +33,7 @@ pub(crate) fn keep_read(node: &mut Node, tx: TxId, key: &Key, read: Read) -> Mem
 
 #[tactic(auto, using(act_rows::proofs::TableLaws::tx_put_put))]
 pub(crate) fn keep_write(node: &mut Node, tx: TxId, key: &Key, new: Option<Value>) -> Mem<()>
-    ensures { OnOk result (node.new ≡ keeps_write node.old tx key.now new) }
+    ensures { OnOk result (node.new ≡ with_write node.old tx key.now new) }
 {
     let Some(mut entry) = node.take_entry(tx) else {
         return Ok(());
@@ -44,7 +44,7 @@ pub(crate) fn keep_write(node: &mut Node, tx: TxId, key: &Key, new: Option<Value
 
 #[tactic(auto, using(act_rows::proofs::TableLaws::tx_put_put))]
 pub(crate) fn set_state(node: &mut Node, tx: TxId, state: TxState) -> Mem<()>
-    ensures { OnOk result (node.new ≡ takes_state node.old tx state) }
+    ensures { OnOk result (node.new ≡ with_tx_state node.old tx state) }
 {
     let Some(mut entry) = node.take_entry(tx) else {
         return Ok(());
@@ -56,7 +56,7 @@ pub(crate) fn set_state(node: &mut Node, tx: TxId, state: TxState) -> Mem<()>
 /// What a bare access is to be answered.
 #[tactic(auto, using(act_rows::proofs::TableLaws::tx_put_put))]
 pub(crate) fn set_outcome(node: &mut Node, tx: TxId, answer: &Answer) -> Mem<()>
-    ensures { OnOk result (node.new ≡ takes_outcome node.old tx answer.now) }
+    ensures { OnOk result (node.new ≡ with_outcome node.old tx answer.now) }
 {
     let Some(mut entry) = node.take_entry(tx) else {
         return Ok(());
@@ -67,7 +67,7 @@ pub(crate) fn set_outcome(node: &mut Node, tx: TxId, answer: &Answer) -> Mem<()>
 
 #[tactic(auto, using(act_rows::proofs::TableLaws::tx_put_put))]
 pub(crate) fn touch(node: &mut Node, tx: TxId, key: &Key) -> Mem<()>
-    ensures { OnOk result (node.new ≡ touches node.old tx key.now) }
+    ensures { OnOk result (node.new ≡ with_touched node.old tx key.now) }
 {
     let Some(mut entry) = node.take_entry(tx) else {
         return Ok(());
@@ -79,7 +79,7 @@ pub(crate) fn touch(node: &mut Node, tx: TxId, key: &Key) -> Mem<()>
 /// The key is touched, and its primary is asked for the lock.
 #[tactic(auto, using(act_rows::proofs::TableLaws::tx_put_put))]
 pub(crate) fn ask_lock(node: &mut Node, tx: TxId, key: &Key, primary: NodeId) -> Mem<()>
-    ensures { OnOk result (node.new ≡ asks_lock node.old tx key.now primary) }
+    ensures { OnOk result (node.new ≡ with_lock_asked node.old tx key.now primary) }
 {
     let Some(mut entry) = node.take_entry(tx) else {
         return Ok(());
@@ -93,7 +93,7 @@ pub(crate) fn ask_lock(node: &mut Node, tx: TxId, key: &Key, primary: NodeId) ->
 /// The key is touched, and its primary is asked for what it has.
 #[tactic(auto, using(act_rows::proofs::TableLaws::tx_put_put))]
 pub(crate) fn ask_value(node: &mut Node, tx: TxId, key: &Key, near: bool) -> Mem<()>
-    ensures { OnOk result (node.new ≡ asks_value node.old tx key.now near) }
+    ensures { OnOk result (node.new ≡ with_value_asked node.old tx key.now near) }
 {
     let Some(mut entry) = node.take_entry(tx) else {
         return Ok(());
@@ -106,7 +106,7 @@ pub(crate) fn ask_value(node: &mut Node, tx: TxId, key: &Key, near: bool) -> Mem
 /// No Get is awaited any more.
 #[tactic(auto, using(act_rows::proofs::TableLaws::tx_put_put))]
 pub(crate) fn got_value(node: &mut Node, tx: TxId) -> Mem<()>
-    ensures { OnOk result (node.new ≡ got_value node.old tx) }
+    ensures { OnOk result (node.new ≡ without_getting node.old tx) }
 {
     let Some(mut entry) = node.take_entry(tx) else {
         return Ok(());
@@ -118,7 +118,7 @@ pub(crate) fn got_value(node: &mut Node, tx: TxId) -> Mem<()>
 /// The transaction's topology version is fixed.
 #[tactic(auto, using(act_rows::proofs::TableLaws::tx_put_put))]
 pub(crate) fn fix_version(node: &mut Node, tx: TxId, top: TopVer) -> Mem<()>
-    ensures { OnOk result (node.new ≡ fixes_version node.old tx top) }
+    ensures { OnOk result (node.new ≡ with_version node.old tx top) }
 {
     let Some(mut entry) = node.take_entry(tx) else {
         return Ok(());
@@ -131,7 +131,7 @@ pub(crate) fn fix_version(node: &mut Node, tx: TxId, top: TopVer) -> Mem<()>
 /// A node's answer is no longer awaited.
 #[tactic(auto, using(act_rows::proofs::TableLaws::tx_put_put))]
 pub(crate) fn no_longer_await(node: &mut Node, tx: TxId, from: NodeId) -> Mem<()>
-    ensures { OnOk result (node.new ≡ no_longer node.old tx from) }
+    ensures { OnOk result (node.new ≡ without_awaited node.old tx from) }
 {
     let Some(mut entry) = node.take_entry(tx) else {
         return Ok(());

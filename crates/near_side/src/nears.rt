@@ -1,10 +1,10 @@
 //! Near caches: the most recent entry first.
 
 ghost use Rattle.std.specs.Prelude.{◌≡◌, ◌++◌, OnOk, IfOk, [], ◌∷◌, take, filter, map, not};
-ghost use Rattle.base_words.specs.NearEntries.{is_updated, near_entry, near_front, near_put, near_updated, others_than, renewed};
+ghost use Rattle.part_model.specs.NearEntries.{is_updated, near_entry, near_front, near_put, near_renewed, near_updated, others_than};
 ghost use Rattle.act_rows.specs.Steps.{near_of, with_near};
 
-use base_words::NearEntry;
+use part_model::NearEntry;
 use ignite_types::{CacheVersion, Key, List, Mem, Value};
 use node_steps::Node;
 use std::alloc::Global;
@@ -102,7 +102,7 @@ fn with_newer(
     value: &Value,
     ver: CacheVersion,
 ) -> Mem<List<NearEntry>>
-    ensures { IfOk result (λ next. next ≡ renewed near.now key.now value.now ver) }
+    ensures { IfOk result (λ next. next ≡ near_renewed near.now key.now value.now ver) }
 {
     let mut next = List::new(alloc);
     for entry in near {

@@ -1,9 +1,9 @@
 //! The commit's first phase: Prepare to each primary of a touched key.
 
 ghost use Rattle.std.specs.Prelude.{◌≡◌, ◌++◌, OnOk, IfOk, Some};
-ghost use Rattle.act_rows.specs.Accesses.{begins_prepare, commits, prepare_outs, prepares, shares_at, shares_for, shares_from, shares_of, wanted_at, writes_at};
+ghost use Rattle.act_rows.specs.Accesses.{after_commit, after_send_prepares, prepare_outs, shares_at, shares_for, shares_from, shares_of, wanted_at, with_preparing, writes_at};
 ghost use Rattle.act_rows.specs.Steps.{primary_at};
-ghost use Rattle.base_words.specs.Orders.{is_node};
+ghost use Rattle.part_model.specs.Orders.{is_node};
 ghost use Rattle.std.specs.Prelude.{[]};
 
 use crate::values::version_read;
@@ -138,7 +138,7 @@ fn prepare_outs(
 /// Each primary of a touched key is asked, and awaited.
 #[tactic(auto, using(act_rows::proofs::TableLaws::tx_put_put))]
 fn begin_prepare(node: &mut Node, tx: TxId, primaries: &Set<NodeId>, shares: &[Share]) -> Mem<()>
-    ensures { OnOk result (node.new ≡ begins_prepare node.old tx primaries.now shares.now) }
+    ensures { OnOk result (node.new ≡ with_preparing node.old tx primaries.now shares.now) }
 {
     let Some(mut entry) = node.take_entry(tx) else {
         return Ok(());
@@ -152,7 +152,7 @@ fn begin_prepare(node: &mut Node, tx: TxId, primaries: &Set<NodeId>, shares: &[S
 
 /// The commit's first phase; without keys the decision comes at once.
 pub fn commit(node: &mut Node, tx: TxId, top: TopVer) -> Mem<()>
-    ensures { OnOk result (node.new ≡ commits node.old tx top) }
+    ensures { OnOk result (node.new ≡ after_commit node.old tx top) }
 {
     let Some(entry) = node.entry(&tx) else {
         return Ok(());

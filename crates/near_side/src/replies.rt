@@ -1,25 +1,25 @@
 //! Answers of the primaries, and updates of the near cache.
 
 ghost use Rattle.std.specs.Prelude.{◌≡◌, OnOk, Some};
-ghost use Rattle.act_rows.specs.Accesses.{get_ok_row, goes_on_at, is_pending, keeps_found, lock_ok_row, near_backup_finished, near_finished, near_kept, near_update_row, prepare_fail_row, prepared_row, state_of};
-ghost use Rattle.act_rows.specs.Steps.{desk_of};
+ghost use Rattle.act_rows.specs.Accesses.{after_backup_finished_at_starter, after_finished_at_starter, after_get_ok, after_keep_near, after_lock_ok, after_near_update, after_prepare_fail, after_prepared, after_resume, is_pending_access, tx_state_of, with_found_read};
+ghost use Rattle.act_rows.specs.Steps.{session_state_of};
 
 use crate::access::do_known;
 use crate::entries::{got_value, keep_read, no_longer_await, set_state};
 use crate::nears::{near_of, put_near, updated, with_put};
 use crate::values::{access_key, read_of};
-use base_words::NearEntry;
+use part_model::NearEntry;
 use ignite_types::{
     CacheVersion, Command, Fail, Fault, Found, Key, Mem, Message, NodeId, Share, TopVer, TxId,
     Value,
 };
-use node_state::{Desk, TxState};
+use node_state::{SessionState, TxState};
 use node_steps::Node;
 use tx_decisions::fail;
 
 /// A read keeps what was found.
 fn keep_found(node: &mut Node, tx: TxId, key: &Key, found: &Found, command: &Command) -> Mem<()>
-    ensures { OnOk result (node.new ≡ keeps_found node.old tx key.now found.now command.now) }
+    ensures { OnOk result (node.new ≡ with_found_read node.old tx key.now found.now command.now) }
 {
     match command {
         Command::Get(_) | Command::Add(_, _) => keep_read(node, tx, key, read_of(found)),
@@ -29,16 +29,16 @@ fn keep_found(node: &mut Node, tx: TxId, key: &Key, found: &Found, command: &Com
 
 /// The pending command has what it waited for: it is done.
 fn go_on(node: &mut Node, tx: TxId, key: &Key, found: &Found, top: Option<TopVer>) -> Mem<()>
-    ensures { OnOk result (node.new ≡ goes_on_at node.old tx key.now found.now top (desk_of node.old tx.session)) }
+    ensures { OnOk result (node.new ≡ after_resume node.old tx key.now found.now top (session_state_of node.old tx.session)) }
 {
     let Some(top) = top else {
         return Ok(());
     };
-    let Some(desk) = node.desk(tx.session) else {
+    let Some(session_state) = node.session_state(tx.session) else {
         return Ok(());
     };
-    let block = desk.block;
-    match desk.pending {
+    let block = session_state.block;
+    match session_state.pending {
         Some(command) => {
             keep_found(node, tx, key, found, &command)?;
             do_known(node, tx, top, block, &command)
@@ -48,10 +48,10 @@ fn go_on(node: &mut Node, tx: TxId, key: &Key, found: &Found, top: Option<TopVer
 }
 
 /// Whether the pending command is an access of this key.
-fn is_pending(key: &Key, desk: &Desk) -> bool
-    ensures { result ≡ is_pending key.now (Some desk.now) }
+fn is_pending(key: &Key, session_state: &SessionState) -> bool
+    ensures { result ≡ is_pending_access key.now (Some session_state.now) }
 {
-    match &desk.pending {
+    match &session_state.pending {
         Some(command) => match access_key(command) {
             Some(other) => *key == other,
             None => false,
@@ -62,7 +62,7 @@ fn is_pending(key: &Key, desk: &Desk) -> bool
 
 /// LockOk, dropped where the transaction does not wait for a lock any more.
 pub fn on_lock_ok(node: &mut Node, tx: TxId, key: &Key, found: &Found) -> Mem<()>
-    ensures { OnOk result (node.new ≡ lock_ok_row node.old tx key.now found.now) }
+    ensures { OnOk result (node.new ≡ after_lock_ok node.old tx key.now found.now) }
 {
     let Some(entry) = node.entry(&tx) else {
         return Ok(());
@@ -70,10 +70,10 @@ pub fn on_lock_ok(node: &mut Node, tx: TxId, key: &Key, found: &Found) -> Mem<()
     let top = entry.top;
     match entry.state {
         TxState::Waiting => {
-            let Some(desk) = node.desk(tx.session) else {
+            let Some(session_state) = node.session_state(tx.session) else {
                 return Ok(());
             };
-            if is_pending(key, desk) {
+            if is_pending(key, session_state) {
                 set_state(node, tx, TxState::Active)?;
                 go_on(node, tx, key, found, top)
             } else {
@@ -86,7 +86,7 @@ pub fn on_lock_ok(node: &mut Node, tx: TxId, key: &Key, found: &Found) -> Mem<()
 
 /// What was found goes into the near cache, where it was asked so and there is a value.
 fn keep_near(node: &mut Node, key: &Key, near: bool, found: &Found) -> Mem<()>
-    ensures { OnOk result (node.new ≡ near_kept node.old key.now near found.now) }
+    ensures { OnOk result (node.new ≡ after_keep_near node.old key.now near found.now) }
 {
     match (near, found) {
         (true, Some((value, ver))) => {
@@ -104,7 +104,7 @@ fn keep_near(node: &mut Node, key: &Key, near: bool, found: &Found) -> Mem<()>
 
 /// GetOk, dropped where it is not awaited any more.
 pub fn on_get_ok(node: &mut Node, tx: TxId, key: &Key, found: &Found) -> Mem<()>
-    ensures { OnOk result (node.new ≡ get_ok_row node.old tx key.now found.now) }
+    ensures { OnOk result (node.new ≡ after_get_ok node.old tx key.now found.now) }
 {
     let Some(entry) = node.entry(&tx) else {
         return Ok(());
@@ -124,7 +124,7 @@ pub fn on_get_ok(node: &mut Node, tx: TxId, key: &Key, found: &Found) -> Mem<()>
 
 /// The state of a transaction; Ended where it is not known.
 fn state_of(node: &Node, tx: &TxId) -> TxState
-    ensures { result ≡ state_of node.now tx.now }
+    ensures { result ≡ tx_state_of node.now tx.now }
 {
     match node.entry(tx) {
         Some(entry) => entry.state,
@@ -134,7 +134,7 @@ fn state_of(node: &Node, tx: &TxId) -> TxState
 
 /// Prepared: the sender is no longer awaited.
 pub fn on_prepared(node: &mut Node, from: NodeId, tx: TxId) -> Mem<()>
-    ensures { OnOk result (node.new ≡ prepared_row node.old from tx) }
+    ensures { OnOk result (node.new ≡ after_prepared node.old from tx) }
 {
     match state_of(node, &tx) {
         TxState::Preparing => no_longer_await(node, tx, from),
@@ -144,7 +144,7 @@ pub fn on_prepared(node: &mut Node, from: NodeId, tx: TxId) -> Mem<()>
 
 /// PrepareFail: the first one is the fault.
 pub fn on_prepare_fail(node: &mut Node, tx: TxId, why: &Fail) -> Mem<()>
-    ensures { OnOk result (node.new ≡ prepare_fail_row node.old tx why.now) }
+    ensures { OnOk result (node.new ≡ after_prepare_fail node.old tx why.now) }
 {
     match state_of(node, &tx) {
         TxState::Preparing => fail(node, tx, &Fault::Check(*why)),
@@ -154,7 +154,7 @@ pub fn on_prepare_fail(node: &mut Node, tx: TxId, why: &Fail) -> Mem<()>
 
 /// Finished: the sender is no longer awaited.
 pub fn on_near_finished(node: &mut Node, from: NodeId, tx: TxId) -> Mem<()>
-    ensures { OnOk result (node.new ≡ near_finished node.old from tx) }
+    ensures { OnOk result (node.new ≡ after_finished_at_starter node.old from tx) }
 {
     match state_of(node, &tx) {
         TxState::Committing => no_longer_await(node, tx, from),
@@ -166,7 +166,7 @@ pub fn on_near_finished(node: &mut Node, from: NodeId, tx: TxId) -> Mem<()>
 /// BackupFinished for a lost primary's share: its holder is no longer awaited.
 #[tactic(auto, using(act_rows::proofs::TableLaws::tx_put_put))]
 pub fn on_near_backup_finished(node: &mut Node, from: NodeId, tx: TxId, primary: NodeId) -> Mem<()>
-    ensures { OnOk result (node.new ≡ near_backup_finished node.old from tx primary) }
+    ensures { OnOk result (node.new ≡ after_backup_finished_at_starter node.old from tx primary) }
 {
     let Some(mut entry) = node.take_entry(tx) else {
         return Ok(());
@@ -187,7 +187,7 @@ pub fn on_near_update(
     new: &Option<Value>,
     ver: CacheVersion,
 ) -> Mem<()>
-    ensures { OnOk result (node.new ≡ near_update_row node.old from tx key.now new.now ver) }
+    ensures { OnOk result (node.new ≡ after_near_update node.old from tx key.now new.now ver) }
 {
     let next = updated(node.alloc, near_of(node, key), key, new, ver)?;
     put_near(node, key, next)?;

@@ -1,24 +1,24 @@
 //! A session's next command and its answers.
 
 ghost use Rattle.std.specs.Prelude.{◌≡◌, OnOk};
-ghost use Rattle.act_rows.specs.Commands.{answer_at, answer_for, answer_row, call_at, desk_over, handed_over, hands, next_of, slept};
-ghost use Rattle.act_rows.specs.Steps.{desk_of, on_desk};
+ghost use Rattle.act_rows.specs.Commands.{after_answer, after_hand_out, answer_at, answer_of_sleep, answer_to_give, call_at, command_to_give, is_session_state_over, session_state_after_answer};
+ghost use Rattle.act_rows.specs.Steps.{on_session_state, session_state_of};
 
 use ignite_types::{Answer, Command, Mem, Rec};
-use node_state::Desk;
+use node_state::SessionState;
 use node_steps::Node;
 use session_scripts::{advance, command_at};
 
 /// The command that the session would give next: at the script's end an open block is closed.
-fn next_of(desk: &Desk) -> Option<Command>
-    ensures { result ≡ next_of desk.now }
+fn next_of(session_state: &SessionState) -> Option<Command>
+    ensures { result ≡ command_to_give session_state.now }
 {
-    match &desk.pending {
+    match &session_state.pending {
         Some(_) => None,
-        None => match command_at(desk.script.as_slice(), &desk.progress) {
+        None => match command_at(session_state.script.as_slice(), &session_state.progress) {
             Some(command) => Some(command),
             None => {
-                if desk.block {
+                if session_state.block {
                     Some(Command::Close)
                 } else {
                     None
@@ -32,22 +32,22 @@ fn next_of(desk: &Desk) -> Option<Command>
 pub fn call_at(node: &Node, session: u32) -> Option<Command>
     ensures { result ≡ call_at node.now session }
 {
-    match node.desk(session) {
-        Some(desk) => next_of(desk),
+    match node.session_state(session) {
+        Some(session_state) => next_of(session_state),
         None => None,
     }
 }
 
 /// Whether a session is at its end: no command is pending and none is left.
-pub fn desk_over(desk: &Desk) -> bool
-    ensures { result ≡ desk_over desk.now }
+pub fn session_state_over(session_state: &SessionState) -> bool
+    ensures { result ≡ is_session_state_over session_state.now }
 {
-    desk.pending.is_none() && next_of(desk).is_none()
+    session_state.pending.is_none() && next_of(session_state).is_none()
 }
 
 /// The answer of a sleep whose end is reached.
 fn slept(now: u64, wake: Option<u64>) -> Option<Answer>
-    ensures { result ≡ slept now wake }
+    ensures { result ≡ answer_of_sleep now wake }
 {
     match wake {
         Some(wake) => {
@@ -62,12 +62,12 @@ fn slept(now: u64, wake: Option<u64>) -> Option<Answer>
 }
 
 /// The answer that the session can be given.
-fn answer_for(node: &Node, desk: &Desk) -> Option<Answer>
-    ensures { result ≡ answer_for node.now desk.now }
+fn answer_for(node: &Node, session_state: &SessionState) -> Option<Answer>
+    ensures { result ≡ answer_to_give node.now session_state.now }
 {
-    match desk.ready {
+    match session_state.ready {
         Some(answer) => Some(answer),
-        None => slept(node.state.now, desk.wake),
+        None => slept(node.state.now, session_state.wake),
     }
 }
 
@@ -75,8 +75,8 @@ fn answer_for(node: &Node, desk: &Desk) -> Option<Answer>
 pub fn answer_at(node: &Node, session: u32) -> Option<Answer>
     ensures { result ≡ answer_at node.now session }
 {
-    match node.desk(session) {
-        Some(desk) => answer_for(node, desk),
+    match node.session_state(session) {
+        Some(session_state) => answer_for(node, session_state),
         None => None,
     }
 }
@@ -84,21 +84,21 @@ pub fn answer_at(node: &Node, session: u32) -> Option<Answer>
 /// The pending command is answered, and the session goes on in its script.
 #[tactic(auto, using(act_rows::proofs::TableLaws::nat_put_put))]
 fn hand_over(node: &mut Node, session: u32, answer: &Answer) -> Mem<()>
-    ensures { OnOk result (node.new ≡ on_desk node.old session (handed_over answer.now) (desk_of node.old session)) }
+    ensures { OnOk result (node.new ≡ on_session_state node.old session (session_state_after_answer answer.now) (session_state_of node.old session)) }
 {
-    let Some(mut desk) = node.take_desk(session) else {
+    let Some(mut session_state) = node.take_session_state(session) else {
         return Ok(());
     };
-    desk.progress = advance(node.alloc, desk.script.as_slice(), &desk.progress, answer)?;
-    desk.pending = None;
-    desk.wake = None;
-    desk.ready = None;
-    node.put_desk(session, desk)
+    session_state.progress = advance(node.alloc, session_state.script.as_slice(), &session_state.progress, answer)?;
+    session_state.pending = None;
+    session_state.wake = None;
+    session_state.ready = None;
+    node.put_session_state(session, session_state)
 }
 
 /// The session is given its answer.
 pub fn on_answer(node: &mut Node, session: u32) -> Mem<()>
-    ensures { OnOk result (node.new ≡ answer_row node.old session) }
+    ensures { OnOk result (node.new ≡ after_answer node.old session) }
 {
     match answer_at(node, session) {
         Some(answer) => {

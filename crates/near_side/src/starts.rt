@@ -1,8 +1,8 @@
 //! What waits for the version starts once the last version seen is open here.
 
 ghost use Rattle.std.specs.Prelude.{◌≡◌, OnOk, IfOk};
-ghost use Rattle.act_rows.specs.Starts.{is_start, sessions_of, start_desk, start_each, starts, starts_all};
-ghost use Rattle.act_rows.specs.Steps.{desk_of};
+ghost use Rattle.act_rows.specs.Starts.{after_start, after_start_all, after_start_each, after_start_session, sessions_of, takes_version};
+ghost use Rattle.act_rows.specs.Steps.{session_state_of};
 
 use crate::access::does;
 use crate::entries::fix_version;
@@ -13,7 +13,7 @@ use node_steps::Node;
 
 /// Accesses and commits take a version.
 fn is_start(command: &Command) -> bool
-    ensures { result ≡ is_start command.now }
+    ensures { result ≡ takes_version command.now }
 {
     match command {
         Command::Commit => true,
@@ -22,7 +22,7 @@ fn is_start(command: &Command) -> bool
 }
 
 fn start(node: &mut Node, tx: TxId, block: bool, command: &Command) -> Mem<()>
-    ensures { OnOk result (node.new ≡ starts node.old tx block command.now) }
+    ensures { OnOk result (node.new ≡ after_start node.old tx block command.now) }
 {
     let top = node.state.seen;
     fix_version(node, tx, top)?;
@@ -32,14 +32,14 @@ fn start(node: &mut Node, tx: TxId, block: bool, command: &Command) -> Mem<()>
 
 /// The session's transaction starts, where an access or a commit of it waits.
 fn start_session(node: &mut Node, session: u32) -> Mem<()>
-    ensures { OnOk result (node.new ≡ start_desk node.old (desk_of node.old session)) }
+    ensures { OnOk result (node.new ≡ after_start_session node.old (session_state_of node.old session)) }
 {
-    let Some(desk) = node.desk(session) else {
+    let Some(session_state) = node.session_state(session) else {
         return Ok(());
     };
-    let block = desk.block;
-    let pending = desk.pending;
-    let Some(tx) = desk.tx else {
+    let block = session_state.block;
+    let pending = session_state.pending;
+    let Some(tx) = session_state.tx else {
         return Ok(());
     };
     let Some(entry) = node.entry(&tx) else {
@@ -58,7 +58,7 @@ fn start_session(node: &mut Node, session: u32) -> Mem<()>
 }
 
 fn start_each(node: &mut Node, sessions: &[u32]) -> Mem<()>
-    ensures { OnOk result (node.new ≡ start_each node.old sessions.now) }
+    ensures { OnOk result (node.new ≡ after_start_each node.old sessions.now) }
 {
     for session in sessions {
         start_session(node, *session)?;
@@ -71,7 +71,7 @@ fn sessions_of(node: &Node) -> Mem<List<u32>>
     ensures { IfOk result (λ sessions. sessions ≡ sessions_of node.now) }
 {
     let mut sessions = List::new(node.alloc);
-    for (session, _) in node.state.desks.as_slice() {
+    for (session, _) in node.state.session_states.as_slice() {
         sessions.push(*session)?;
     }
     Ok(sessions)
@@ -79,7 +79,7 @@ fn sessions_of(node: &Node) -> Mem<List<u32>>
 
 /// All that waits for the version, by session, where it is open.
 pub fn start_all(node: &mut Node) -> Mem<()>
-    ensures { OnOk result (node.new ≡ starts_all node.old) }
+    ensures { OnOk result (node.new ≡ after_start_all node.old) }
 {
     if node.is_open() {
         let sessions = sessions_of(node)?;

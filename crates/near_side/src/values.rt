@@ -1,8 +1,8 @@
 //! What a transaction knows of a key.
 
 ghost use Rattle.std.specs.Prelude.{◌≡◌};
-ghost use Rattle.base_words.specs.NearEntries.{near_entry, near_front, near_put, near_updated};
-ghost use Rattle.act_rows.specs.Accesses.{access_key, answer_of, read_of, value_before, version_read};
+ghost use Rattle.part_model.specs.NearEntries.{near_entry, near_front, near_put, near_updated};
+ghost use Rattle.act_rows.specs.Accesses.{access_key, answer_of_value, read_of, value_before, version_read};
 ghost use Rattle.ordered_table.specs.Entries.{at};
 ghost use Rattle.ignite_types.specs.Names.{key_cmp};
 
@@ -50,7 +50,7 @@ pub(crate) fn version_read(entry: &TxEntry, key: &Key) -> Option<CacheVersion>
 }
 
 pub(crate) fn answer_of(found: &Option<Value>) -> Answer
-    ensures { result ≡ answer_of found.now }
+    ensures { result ≡ answer_of_value found.now }
 {
     match found {
         Some(value) => Answer::Found(*value),

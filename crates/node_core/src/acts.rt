@@ -2,8 +2,8 @@
 
 ghost use Rattle.std.specs.Prelude.{◌≡◌, [], OnOk, IfOk};
 ghost use Rattle.std.specs.Option.{option_copied};
-ghost use Rattle.act_rows.specs.Acts.{answer_act, begun, brings, call_act, expire_act, join_act, message_act, message_row, minor_act, oldest_out, see_act, see_row, send_act};
-ghost use Rattle.act_rows.specs.Closing.{closed};
+ghost use Rattle.act_rows.specs.Acts.{after_event_effects, after_message, after_see, answer_act, call_act, expire_act, join_act, message_act, minor_act, oldest_out, see_act, send_act, with_act_begun};
+ghost use Rattle.act_rows.specs.Closing.{after_closing_rules};
 
 use crate::closing::close;
 use crate::messages::on_message;
@@ -19,7 +19,7 @@ use tx_recovery::begin_round;
 
 /// An act begins: it counts, and nothing is noted yet.
 pub fn begin_act(node: &mut Node)
-    ensures { node.new ≡ begun node.old }
+    ensures { node.new ≡ with_act_begun node.old }
 {
     node.state.acts = node.state.acts.saturating_add(1);
     node.state.noted = List::new(node.alloc);
@@ -35,7 +35,7 @@ fn take_notes(node: &mut Node) -> List<Rec>
 
 /// What a message does, with the closing rules at its end.
 fn act_on(node: &mut Node, from: NodeId, message: &Message) -> Mem<()>
-    ensures { OnOk result (node.new ≡ closed (message_row (begun node.old) from message.now)) }
+    ensures { OnOk result (node.new ≡ after_closing_rules (after_message (with_act_begun node.old) from message.now)) }
 {
     begin_act(node);
     on_message(node, from, message)?;
@@ -57,7 +57,7 @@ pub fn take_message(node: &mut Node, from: NodeId, message: Message) -> Mem<List
 
 /// What seeing an event brings beside its version: a loss ends waits and begins a recovery.
 fn bring(node: &mut Node, place: u64, event: &TopoEvent) -> Mem<()>
-    ensures { OnOk result (node.new ≡ brings node.old place event.now) }
+    ensures { OnOk result (node.new ≡ after_event_effects node.old place event.now) }
 {
     match event {
         TopoEvent::Left(lost) => {
@@ -72,7 +72,7 @@ fn bring(node: &mut Node, place: u64, event: &TopoEvent) -> Mem<()>
 
 /// The next topology event is read.
 fn see_event(node: &mut Node, event: &TopoEvent) -> Mem<()>
-    ensures { OnOk result (node.new ≡ see_row node.old node.old.read event.now) }
+    ensures { OnOk result (node.new ≡ after_see node.old node.old.read event.now) }
 {
     let place = node.state.read;
     learn(node, event)?;
@@ -84,7 +84,7 @@ fn see_event(node: &mut Node, event: &TopoEvent) -> Mem<()>
 
 /// What seeing the next topology event does, with the closing rules at its end.
 fn see_on(node: &mut Node, event: &TopoEvent) -> Mem<()>
-    ensures { OnOk result (node.new ≡ closed (see_row (begun node.old) node.old.read event.now)) }
+    ensures { OnOk result (node.new ≡ after_closing_rules (after_see (with_act_begun node.old) node.old.read event.now)) }
 {
     begin_act(node);
     see_event(node, event)?;

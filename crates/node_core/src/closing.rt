@@ -1,8 +1,8 @@
 //! What a node does at the end of each act.
 
 ghost use Rattle.std.specs.Prelude.{◌≡◌, OnOk, IfOk};
-ghost use Rattle.base_words.specs.Tables.{keys_in};
-ghost use Rattle.act_rows.specs.Closing.{closed, is_drained, is_over, near_on, near_on_each, near_on_entry, owes_single, sends_single, single_if_drained, was_sent, all_done, all_over, all_committed_backups};
+ghost use Rattle.part_model.specs.Tables.{keys_in};
+ghost use Rattle.act_rows.specs.Closing.{after_advance_each_tx, after_advance_starter, after_advance_tx, after_closing_rules, after_send_single, after_single_if_drained, all_committed_backups, all_shares_done, all_txs_over, is_drained, is_tx_over, owes_single, was_sent};
 ghost use Rattle.act_rows.specs.Exchange.{is_kept_commit};
 ghost use Rattle.act_rows.specs.Steps.{entry_of};
 
@@ -17,7 +17,7 @@ use tx_recovery::is_calm;
 
 /// A transaction that awaits no answer of its phase goes on: it is decided, or it has ended.
 fn near_on_entry(node: &mut Node, tx: TxId) -> Mem<()>
-    ensures { OnOk result (node.new ≡ near_on_entry node.old tx (entry_of node.old tx)) }
+    ensures { OnOk result (node.new ≡ after_advance_tx node.old tx (entry_of node.old tx)) }
 {
     let Some(entry) = node.entry(&tx) else {
         return Ok(());
@@ -36,7 +36,7 @@ fn near_on_entry(node: &mut Node, tx: TxId) -> Mem<()>
 }
 
 fn near_on_each(node: &mut Node, txs: &[TxId]) -> Mem<()>
-    ensures { OnOk result (node.new ≡ near_on_each node.old txs.now) }
+    ensures { OnOk result (node.new ≡ after_advance_each_tx node.old txs.now) }
 {
     for tx in txs {
         near_on_entry(node, *tx)?;
@@ -46,7 +46,7 @@ fn near_on_each(node: &mut Node, txs: &[TxId]) -> Mem<()>
 
 /// The near side's transactions go on, by transaction.
 fn near_on(node: &mut Node) -> Mem<()>
-    ensures { OnOk result (node.new ≡ near_on node.old) }
+    ensures { OnOk result (node.new ≡ after_advance_starter node.old) }
 {
     let txs = txs_of(node)?;
     near_on_each(node, txs.as_slice())
@@ -54,7 +54,7 @@ fn near_on(node: &mut Node) -> Mem<()>
 
 /// Whether a transaction has no version, or has ended.
 fn is_over(entry: &TxEntry) -> bool
-    ensures { result ≡ is_over entry.now entry.now.state }
+    ensures { result ≡ is_tx_over entry.now entry.now.state }
 {
     match entry.state {
         TxState::Ended => true,
@@ -63,7 +63,7 @@ fn is_over(entry: &TxEntry) -> bool
 }
 
 fn all_over(txs: &[(TxId, TxEntry)]) -> bool
-    ensures { result ≡ all_over txs.now }
+    ensures { result ≡ all_txs_over txs.now }
 {
     for (_, entry) in txs {
         if !is_over(entry) {
@@ -84,7 +84,7 @@ fn is_kept_commit(state: ShareState) -> bool
 
 /// Whether all shares are Committed, with no finish in work.
 fn all_done(shares: &[(TxId, OwnShare)]) -> bool
-    ensures { result ≡ all_done shares.now }
+    ensures { result ≡ all_shares_done shares.now }
 {
     for (_, share) in shares {
         if !(is_kept_commit(share.state) && share.askers.len() == 0) {
@@ -135,7 +135,7 @@ fn owes_single(node: &Node) -> bool
 
 /// A drained node that has not installed the last version seen sends its Single once.
 fn send_single(node: &mut Node) -> Mem<()>
-    ensures { OnOk result (node.new ≡ sends_single node.old) }
+    ensures { OnOk result (node.new ≡ after_send_single node.old) }
 {
     let top = node.state.seen;
     let map = node.state.installed.copy(node.alloc)?;
@@ -154,7 +154,7 @@ fn complete_parts(node: &Node) -> Mem<List<u32>>
 
 /// The closing rules: the primary's shares go on first, then the near side; what starts goes on in the same act.
 pub(crate) fn close(node: &mut Node) -> Mem<()>
-    ensures { OnOk result (node.new ≡ closed node.old) }
+    ensures { OnOk result (node.new ≡ after_closing_rules node.old) }
 {
     shares_go_on(node)?;
     near_on(node)?;

@@ -1,7 +1,7 @@
 //! The message table.
 
 ghost use Rattle.std.specs.Prelude.{◌≡◌, OnOk};
-ghost use Rattle.act_rows.specs.Acts.{backup_finished_row, finished_row, holder_row, message_row, topology_row};
+ghost use Rattle.act_rows.specs.Acts.{after_backup_finished, after_finished, after_holder_message, after_message, after_topology_message};
 
 use deadlock_search::on_edges_ok;
 use ignite_types::{List, Mem, Message, NodeId, TxId};
@@ -21,7 +21,7 @@ use prepare_finish::{
 use tx_recovery::{on_orphans, on_recovery_backup_finished, on_recovery_finished};
 
 fn on_finished(node: &mut Node, from: NodeId, tx: TxId) -> Mem<()>
-    ensures { OnOk result (node.new ≡ finished_row node.old from tx) }
+    ensures { OnOk result (node.new ≡ after_finished node.old from tx) }
 {
     on_near_finished(node, from, tx)?;
     on_recovery_finished(node, from, tx);
@@ -30,7 +30,7 @@ fn on_finished(node: &mut Node, from: NodeId, tx: TxId) -> Mem<()>
 
 /// BackupFinished: to the primary, to the starter, or to the recoverer.
 fn on_backup_finished(node: &mut Node, from: NodeId, tx: TxId, primary: NodeId) -> Mem<()>
-    ensures { OnOk result (node.new ≡ backup_finished_row node.old from tx primary) }
+    ensures { OnOk result (node.new ≡ after_backup_finished node.old from tx primary) }
 {
     on_own_backup_finished(node, from, tx, primary)?;
     on_near_backup_finished(node, from, tx, primary)?;
@@ -40,7 +40,7 @@ fn on_backup_finished(node: &mut Node, from: NodeId, tx: TxId, primary: NodeId) 
 
 /// The messages of topology and recovery.
 fn on_topology(node: &mut Node, from: NodeId, message: &Message) -> Mem<()>
-    ensures { OnOk result (node.new ≡ topology_row node.old from message.now) }
+    ensures { OnOk result (node.new ≡ after_topology_message node.old from message.now) }
 {
     match message {
         Message::Single { top, map, complete } => {
@@ -72,7 +72,7 @@ fn on_topology(node: &mut Node, from: NodeId, message: &Message) -> Mem<()>
 
 /// The messages between a primary, its backups, movers and readers.
 fn on_holder(node: &mut Node, from: NodeId, message: &Message) -> Mem<()>
-    ensures { OnOk result (node.new ≡ holder_row node.old from message.now) }
+    ensures { OnOk result (node.new ≡ after_holder_message node.old from message.now) }
 {
     match message {
         Message::BackupPrepare {
@@ -103,7 +103,7 @@ fn on_holder(node: &mut Node, from: NodeId, message: &Message) -> Mem<()>
 
 /// The message table.
 pub(crate) fn on_message(node: &mut Node, from: NodeId, message: &Message) -> Mem<()>
-    ensures { OnOk result (node.new ≡ message_row node.old from message.now) }
+    ensures { OnOk result (node.new ≡ after_message node.old from message.now) }
 {
     match message {
         Message::Lock { tx, top, key } => on_lock(node, from, *tx, *top, *key),

@@ -1,13 +1,13 @@
 //! A declared node before its first act.
 
 ghost use Rattle.std.specs.Prelude.{◌≡◌, [], IfOk};
-ghost use Rattle.base_words.specs.NextMap.{servers};
-ghost use Rattle.tx_model.specs.Opening.{desks_on, empty_copies, map_if, opening_map_of, opening_node};
+ghost use Rattle.part_model.specs.NextMap.{servers};
+ghost use Rattle.tx_model.specs.Opening.{empty_copies, map_if, opening_map_of, opening_node, session_states_on};
 
 use discovery_order::{first_top, running_from};
 use ignite_types::{List, Mem, Member, NodeId, PartMap, Row, Scenario, Session};
-use node_state::{Desk, Store};
-use node_steps::{Node, NodeParts, new_desk};
+use node_state::{SessionState, Store};
+use node_steps::{Node, NodeParts, new_session_state};
 use ordered_set::Set;
 use ordered_table::Table;
 use part_map::opening_map;
@@ -43,19 +43,19 @@ pub fn opening_map_of(alloc: Global, scenario: &Scenario) -> Mem<PartMap>
 }
 
 /// The sessions on a node, by their numbers from 1.
-fn desks_on(alloc: Global, id: NodeId, sessions: &[Session]) -> Mem<Table<u32, Desk>>
-    ensures { IfOk result (λ desks. desks ≡ desks_on id 1 [] sessions.now) }
+fn session_states_on(alloc: Global, id: NodeId, sessions: &[Session]) -> Mem<Table<u32, SessionState>>
+    ensures { IfOk result (λ session_states. session_states ≡ session_states_on id 1 [] sessions.now) }
 {
-    let mut desks = Table::new(alloc);
+    let mut session_states = Table::new(alloc);
     let mut number = 1u32;
     for session in sessions {
         if session.node == id {
             let script = List::from_slice(alloc, session.commands.as_slice())?;
-            desks.set(number, new_desk(alloc, script))?;
+            session_states.set(number, new_session_state(alloc, script))?;
         }
         number = number.saturating_add(1);
     }
-    Ok(desks)
+    Ok(session_states)
 }
 
 /// An empty copy for each of these rows.
@@ -102,7 +102,7 @@ pub fn new_node(
         left: Set::new(alloc),
         installed: map_if(alloc, initial, map)?,
         opened: if initial { Some(first_top()) } else { None },
-        desks: desks_on(alloc, id, scenario.sessions.as_slice())?,
+        session_states: session_states_on(alloc, id, scenario.sessions.as_slice())?,
         txs: Table::new(alloc),
         near: Table::new(alloc),
         stores: empty_copies(alloc, map.rows.as_slice())?,

@@ -2,10 +2,10 @@
 
 ghost use Rattle.std.specs.Prelude.{◌≡◌};
 ghost use Rattle.act_rows.specs.Acts.{may_answer, may_call, may_send};
-ghost use Rattle.act_rows.specs.Steps.{desk_of};
-ghost use Rattle.tx_model.specs.World.{over_desk};
+ghost use Rattle.act_rows.specs.Steps.{session_state_of};
+ghost use Rattle.tx_model.specs.World.{is_over_or_absent};
 
-use near_side::{answer_at, call_at, desk_over};
+use near_side::{answer_at, call_at, session_state_over};
 use node_steps::Node;
 
 /// Whether the session may give a command.
@@ -31,10 +31,10 @@ pub fn may_send(node: &Node) -> bool
 
 /// Whether the session is at the end of its script, with no command pending.
 pub fn session_over(node: &Node, session: u32) -> bool
-    ensures { result ≡ over_desk (desk_of node.now session) }
+    ensures { result ≡ is_over_or_absent (session_state_of node.now session) }
 {
-    match node.desk(session) {
-        Some(desk) => desk_over(desk),
+    match node.session_state(session) {
+        Some(session_state) => session_state_over(session_state),
         None => true,
     }
 }

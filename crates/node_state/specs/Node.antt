@@ -1,8 +1,8 @@
 -- The whole state of a node. The protocol's rows are functions on it, whatever tables the code of a node keeps it in.
 use Rattle.std.specs.Prelude.{Bool, Option, ℕ}
-use Rattle.base_words.specs.Copies.{Copy}
-use Rattle.base_words.specs.NearEntries.{NearCache, Readers}
-use Rattle.base_words.specs.Queues.{Queues}
+use Rattle.part_model.specs.Copies.{Copy}
+use Rattle.part_model.specs.NearEntries.{NearCache, Readers}
+use Rattle.part_model.specs.Queues.{Queues}
 use Rattle.ignite_types.specs.declared.journal.Rec.{Rec}
 use Rattle.ignite_types.specs.declared.list.List.{List}
 use Rattle.ignite_types.specs.declared.message.Out.{Out}
@@ -17,7 +17,7 @@ use Rattle.node_state.specs.declared.near.TxEntry.{TxEntry}
 use Rattle.node_state.specs.declared.primary.BackupName.{BackupName}
 use Rattle.node_state.specs.declared.primary.BackupShare.{BackupShare}
 use Rattle.node_state.specs.declared.primary.OwnShare.{OwnShare}
-use Rattle.node_state.specs.declared.session.Desk.{Desk}
+use Rattle.node_state.specs.declared.session.SessionState.{SessionState}
 use Rattle.node_state.specs.declared.topology.Claim.{Claim}
 use Rattle.node_state.specs.declared.topology.Exchange.{Exchange}
 use Rattle.node_state.specs.declared.topology.Report.{Report}
@@ -46,7 +46,7 @@ pub record NodeState : Type 0 where
   pub opened : Option TopVer
 
   -- the node's sessions, by their number
-  pub desks : List (ℕ × Desk)
+  pub session_states : List (ℕ × SessionState)
   -- the transactions that were started here and have not ended, or whose fault is not told yet, by their names
   pub txs : List (TxId × TxEntry)
   -- the near cache of each cache that has one, by the cache's number; the most recent entry first

@@ -11,5 +11,5 @@ mod topology;
 pub use life::Life;
 pub use near::{Getting, Read, Search, TxEntry, TxState};
 pub use primary::{BackupName, BackupShare, NearWait, OwnShare, Store};
-pub use session::Desk;
+pub use session::SessionState;
 pub use topology::{BackupWait, Claim, Exchange, FinishWait, Report, Round};

@@ -1,6 +1,6 @@
 //! What a node keeps of transactions as a primary, and as a backup or mover of other primaries.
 
-use base_words::Entry;
+use part_model::Entry;
 use ignite_types::{Key, List, NodeId, Share, ShareState, Stored, TopVer, TxId};
 use ordered_set::Set;
 use ordered_table::Table;

@@ -1,11 +1,11 @@
 //! What a node keeps of a session.
 
-use base_words::Progress;
+use part_model::Progress;
 use ignite_types::{Answer, Command, Item, List, TxId};
 
 /// A session and how far it has come in its script.
 #[derive(Debug, Drop)]
-pub struct Desk {
+pub struct SessionState {
     pub script: List<Item>,
     pub progress: Progress,
     /// The command that was given and is not answered yet.

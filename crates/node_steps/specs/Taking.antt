@@ -1,8 +1,8 @@
 -- What it means that a value was taken out of its table to be changed: a vacant one stands in its place.
 use Rattle.std.specs.Prelude.{None, Some, [], ℕ, ◌≡◌}
-use Rattle.act_rows.specs.Commands.{new_desk, new_entry}
-use Rattle.act_rows.specs.Steps.{desk_of, entry_of, no_top, share_of, with_desk, with_entry, with_share}
-use Rattle.base_words.specs.Queues.{Queues}
+use Rattle.act_rows.specs.Commands.{new_entry, new_session_state}
+use Rattle.act_rows.specs.Steps.{entry_of, no_top, session_state_of, share_of, with_entry, with_session_state, with_share}
+use Rattle.part_model.specs.Queues.{Queues}
 use Rattle.ignite_types.specs.Names.{key_cmp}
 use Rattle.ignite_types.specs.declared.list.List.{List}
 use Rattle.ignite_types.specs.declared.names.TxId.{TxId}
@@ -11,7 +11,7 @@ use Rattle.ignite_types.specs.declared.text.Key.{Key}
 use Rattle.node_state.specs.declared.near.TxEntry.{TxEntry}
 use Rattle.node_state.specs.Node.{NodeState}
 use Rattle.node_state.specs.declared.primary.OwnShare.{OwnShare}
-use Rattle.node_state.specs.declared.session.Desk.{Desk}
+use Rattle.node_state.specs.declared.session.SessionState.{SessionState}
 use Rattle.ordered_table.specs.Entries.{at, put}
 use Rattle.ignite_types.specs.declared.scenario.Mode.TheVariants as mode
 
@@ -23,12 +23,12 @@ pub record TakesNoEntry (old new : NodeState) (tx : TxId) : Type 0 where
   pub was : entry_of old tx ≡ None
   pub same : new ≡ old
 
-pub record TakesDesk (old new : NodeState) (session : ℕ) (desk : Desk) : Type 0 where
-  pub was : desk_of old session ≡ Some desk
-  pub vacant : new ≡ with_desk old session (new_desk [])
+pub record TakesSessionState (old new : NodeState) (session : ℕ) (session_state : SessionState) : Type 0 where
+  pub was : session_state_of old session ≡ Some session_state
+  pub vacant : new ≡ with_session_state old session (new_session_state [])
 
-pub record TakesNoDesk (old new : NodeState) (session : ℕ) : Type 0 where
-  pub was : desk_of old session ≡ None
+pub record TakesNoSessionState (old new : NodeState) (session : ℕ) : Type 0 where
+  pub was : session_state_of old session ≡ None
   pub same : new ≡ old
 
 abbrev pub vacant_share : OwnShare

@@ -1,14 +1,14 @@
 //! What a write or a supplied entry does to a copy, and the batches with which a copy is filled.
 
 ghost use Rattle.std.specs.Prelude.{◌≡◌, ◌++◌, OnOk, IfOk, IfSome};
-ghost use Rattle.base_words.specs.Copies.{applied_to, batch_of, found_in, is_after, is_last_batch, is_mark, kept, supplied, supplied_over, values_after, without_marks};
-ghost use Rattle.base_words.specs.Tables.{keys_where};
-ghost use Rattle.base_words.specs.Orders.{is_lower};
+ghost use Rattle.part_model.specs.Copies.{batch_of, copy_after_supply, copy_after_write, found_in, is_after, is_last_batch, is_tombstone, values_after, with_kept, with_supplied_over, without_tombstones};
+ghost use Rattle.part_model.specs.Tables.{keys_where};
+ghost use Rattle.part_model.specs.Orders.{is_lower};
 ghost use Rattle.ignite_types.specs.Names.{key_cmp};
 ghost use Rattle.ordered_table.specs.Entries.{at};
 
 use crate::tables::remove_each;
-use base_words::Entry;
+use part_model::Entry;
 use ignite_types::{Found, Key, List, Mem, Stored};
 use node_state::Store;
 use std::alloc::Global;
@@ -23,9 +23,9 @@ pub fn found_in(store: &Store, key: &Key) -> Found
     Some((value, entry.ver))
 }
 
-/// Keeps a written value; of a removal a mark while the copy is filled, else nothing.
+/// Keeps a written value; of a removal a tombstone while the copy is filled, else nothing.
 fn keep(store: &mut Store, write: &Stored, filling: bool) -> Mem<()>
-    ensures { OnOk result (store.new ≡ kept store.old write.now filling write.now.value) }
+    ensures { OnOk result (store.new ≡ with_kept store.old write.now filling write.now.value) }
 {
     let value = write.value;
     let ver = write.ver;
@@ -41,7 +41,7 @@ fn keep(store: &mut Store, write: &Stored, filling: bool) -> Mem<()>
 
 /// A write replaces an entry whose version is not higher.
 pub fn apply(store: &mut Store, write: &Stored, filling: bool) -> Mem<()>
-    ensures { OnOk result (store.new ≡ applied_to store.old write.now filling) }
+    ensures { OnOk result (store.new ≡ copy_after_write store.old write.now filling) }
 {
     match store.get(&write.key) {
         Some(entry) => {
@@ -103,7 +103,7 @@ pub fn next_batch(
 
 /// A supplied entry is kept where its version is higher than that of what is there.
 fn supply_one(store: &mut Store, entry: &Stored) -> Mem<()>
-    ensures { OnOk result (store.new ≡ supplied_over store.old entry.now (at key_cmp store.old entry.now.key)) }
+    ensures { OnOk result (store.new ≡ with_supplied_over store.old entry.now (at key_cmp store.old entry.now.key)) }
 {
     let value = entry.value;
     let ver = entry.ver;
@@ -121,7 +121,7 @@ fn supply_one(store: &mut Store, entry: &Stored) -> Mem<()>
 
 /// Supplied entries are kept where they are newer than what is there.
 pub fn supply(store: &mut Store, entries: &[Stored]) -> Mem<()>
-    ensures { OnOk result (store.new ≡ supplied store.old entries.now) }
+    ensures { OnOk result (store.new ≡ copy_after_supply store.old entries.now) }
 {
     for entry in entries {
         supply_one(store, entry)?;
@@ -129,9 +129,9 @@ pub fn supply(store: &mut Store, entries: &[Stored]) -> Mem<()>
     Ok(())
 }
 
-/// The keys of a copy's marks.
-fn marked_keys(alloc: Global, store: &Store) -> Mem<List<Key>>
-    ensures { IfOk result (λ keys. keys ≡ keys_where is_mark store.now) }
+/// The keys of a copy's tombstones.
+fn tombstone_keys(alloc: Global, store: &Store) -> Mem<List<Key>>
+    ensures { IfOk result (λ keys. keys ≡ keys_where is_tombstone store.now) }
 {
     let mut keys = List::new(alloc);
     for (key, entry) in store.as_slice() {
@@ -142,11 +142,11 @@ fn marked_keys(alloc: Global, store: &Store) -> Mem<List<Key>>
     Ok(keys)
 }
 
-/// A filled copy needs no marks.
-pub fn drop_marks(alloc: Global, store: &mut Store) -> Mem<()>
-    ensures { OnOk result (store.new ≡ without_marks store.old) }
+/// A filled copy needs no tombstones.
+pub fn drop_tombstones(alloc: Global, store: &mut Store) -> Mem<()>
+    ensures { OnOk result (store.new ≡ without_tombstones store.old) }
 {
-    let keys = marked_keys(alloc, store)?;
+    let keys = tombstone_keys(alloc, store)?;
     remove_each(store, keys.as_slice());
     Ok(())
 }

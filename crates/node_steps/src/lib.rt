@@ -9,7 +9,7 @@ mod places;
 mod queues;
 mod tables;
 
-pub use copies::{apply, drop_marks, found_in, next_batch, supply};
+pub use copies::{apply, drop_tombstones, found_in, next_batch, supply};
 pub use node::{Node, NodeParts};
 pub use nodes::{
     add_members, add_nodes, add_transactions, has_node, holders_for, is_member, oldest_member,
@@ -20,4 +20,4 @@ pub use queues::{
     Queues, edges_of, enqueue, first_blocked, keys_of, leave_queue, owner_in, standing_in,
     stands_in,
 };
-pub use tables::{new_desk, new_entry, new_progress, remove_each};
+pub use tables::{new_session_state, new_entry, new_progress, remove_each};

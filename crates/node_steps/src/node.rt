@@ -1,9 +1,9 @@
 //! The node.
 
-use base_words::NearEntry;
+use part_model::NearEntry;
 use ignite_types::{Cache, Key, List, Member, NodeId, Out, PartMap, Rec, Single, TopVer, TxId};
 use node_state::{
-    BackupName, BackupShare, Claim, Desk, Exchange, OwnShare, Report, Round, Store, TxEntry,
+    BackupName, BackupShare, Claim, SessionState, Exchange, OwnShare, Report, Round, Store, TxEntry,
 };
 use ordered_set::Set;
 use ordered_table::Table;
@@ -35,7 +35,7 @@ pub struct NodeParts {
     pub opened: Option<TopVer>,
 
     /// The node's sessions, by their number.
-    pub desks: Table<u32, Desk>,
+    pub session_states: Table<u32, SessionState>,
     /// The transactions that were started here and have not ended, or whose fault is not told yet.
     pub txs: Table<TxId, TxEntry>,
     /// The near cache of each cache that has one, by the cache's number; the most recent entry first.
@@ -102,7 +102,7 @@ impl Model for Node {
       left = node.state.left;
       installed = node.state.installed;
       opened = node.state.opened;
-      desks = node.state.desks;
+      session_states = node.state.session_states;
       txs = node.state.txs;
       near = node.state.near;
       stores = node.state.stores;

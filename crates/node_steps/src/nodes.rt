@@ -1,9 +1,9 @@
 //! Nodes: who is live, who holds what, and who is the oldest.
 
 ghost use Rattle.std.specs.Prelude.{◌≡◌, OnOk, IfOk, filter, map};
-ghost use Rattle.base_words.specs.Directory.{node_set, oldest_member};
-ghost use Rattle.base_words.specs.NextMap.{has_node, is_member};
-ghost use Rattle.base_words.specs.Queues.{with_members};
+ghost use Rattle.part_model.specs.Directory.{node_set, oldest_member};
+ghost use Rattle.part_model.specs.NextMap.{has_node, is_member};
+ghost use Rattle.part_model.specs.Queues.{with_members};
 ghost use Rattle.ordered_set.specs.Members.{has};
 ghost use Rattle.ignite_types.specs.Names.{node_cmp};
 ghost use Rattle.act_rows.specs.Recovery.{with_nodes};

@@ -2,7 +2,7 @@
 
 ghost use Rattle.std.specs.Prelude.{◌≡◌, OnOk, IfOk};
 ghost use Rattle.act_rows.specs.Decisions.{backup_finish_outs};
-ghost use Rattle.act_rows.specs.Steps.{noting, outs_to, sent, sent_all, sent_to_oldest};
+ghost use Rattle.act_rows.specs.Steps.{outs_to, with_note, with_out, with_out_to_oldest, with_outs};
 
 use crate::node::Node;
 use ignite_types::{List, Mem, Message, NodeId, Out, Rec, TxId};
@@ -43,21 +43,21 @@ pub fn backup_finish_outs(
 impl Node {
     /// Puts a message into the outbox.
     pub fn send(&mut self, to: NodeId, msg: Message) -> Mem<()>
-        ensures { OnOk result (self.new ≡ sent self.old to msg) }
+        ensures { OnOk result (self.new ≡ with_out self.old to msg) }
     {
         self.state.outbox.push(Out { to, msg })
     }
 
     /// Puts messages into the outbox.
     pub fn send_all(&mut self, outs: List<Out>) -> Mem<()>
-        ensures { OnOk result (self.new ≡ sent_all self.old outs) }
+        ensures { OnOk result (self.new ≡ with_outs self.old outs) }
     {
         self.state.outbox.append(outs)
     }
 
     /// Sends a message to the oldest member, where there is one.
     pub fn send_to_oldest(&mut self, msg: Message, oldest: Option<NodeId>) -> Mem<()>
-        ensures { OnOk result (self.new ≡ sent_to_oldest self.old msg oldest) }
+        ensures { OnOk result (self.new ≡ with_out_to_oldest self.old msg oldest) }
     {
         match oldest {
             Some(to) => self.send(to, msg),
@@ -67,7 +67,7 @@ impl Node {
 
     /// Notes a record.
     pub fn note(&mut self, rec: Rec) -> Mem<()>
-        ensures { OnOk result (self.new ≡ noting self.old rec) }
+        ensures { OnOk result (self.new ≡ with_note self.old rec) }
     {
         self.state.noted.push(rec)
     }

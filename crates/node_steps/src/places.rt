@@ -1,9 +1,9 @@
 //! Where keys lie by the installed map, and what the node's copies have there.
 
 ghost use Rattle.std.specs.Prelude.{◌≡◌, OnOk, option_copied, slice_get, slice_set};
-ghost use Rattle.base_words.specs.Copies.{absent_version, applied_to, copy_at};
-ghost use Rattle.act_rows.specs.Steps.{holds, installed_top, is_filling, is_holder_in, is_installed, is_mover_in, is_open, near_size, partition, primary_at, rows_of};
-ghost use Rattle.act_rows.specs.Stores.{applied_all, found_at, stored, version_of};
+ghost use Rattle.part_model.specs.Copies.{absent_version, copy_after_write, copy_at};
+ghost use Rattle.act_rows.specs.Steps.{installed_top, is_filling, is_holder, is_holder_in, is_installed, is_mover_in, is_open, near_size, partition_of, primary_at, rows_of};
+ghost use Rattle.act_rows.specs.Stores.{after_apply_each, found_at, version_of, with_stored};
 
 use crate::copies::{apply, found_in};
 use crate::node::Node;
@@ -35,7 +35,7 @@ pub fn absent_version() -> CacheVersion
 
 /// A write is done to the copy at this place, where there is one.
 fn apply_at(copies: &mut Vec<Store>, part: usize, write: &Stored, filling: bool) -> Mem<()>
-    ensures { OnOk result (copies.new.items ≡ slice_set copies.old.items part (applied_to (copy_at copies.old.items part) write.now filling)) }
+    ensures { OnOk result (copies.new.items ≡ slice_set copies.old.items part (copy_after_write (copy_at copies.old.items part) write.now filling)) }
 {
     if copies.len() <= part {
         return Ok(());
@@ -73,7 +73,7 @@ impl Node {
 
     /// The partition of a key by the installed map; 0 where none is installed.
     pub fn partition(&self, key: &Key) -> u32
-        ensures { result ≡ partition self.now key.now }
+        ensures { result ≡ partition_of self.now key.now }
     {
         match &self.state.installed {
             Some(map) => map.part_of(key),
@@ -103,7 +103,7 @@ impl Node {
 
     /// Whether a node has a copy of the key's partition by the installed map.
     pub fn holds(&self, node: NodeId, key: &Key) -> bool
-        ensures { result ≡ holds self.now node key.now }
+        ensures { result ≡ is_holder self.now node key.now }
     {
         match self.row(self.partition(key) as usize) {
             Some(row) => {
@@ -143,7 +143,7 @@ impl Node {
 
     /// A write is done to the copy of its key's partition.
     pub fn store(&mut self, write: &Stored) -> Mem<()>
-        ensures { OnOk result (self.new ≡ stored self.old write.now) }
+        ensures { OnOk result (self.new ≡ with_stored self.old write.now) }
     {
         let part = self.partition(&write.key);
         let filling = self.is_filling(part);
@@ -162,7 +162,7 @@ impl Node {
         primary: NodeId,
         writes: &[Stored],
     ) -> Mem<()>
-        ensures { OnOk result (self.new ≡ applied_all self.old tx top primary writes.now) }
+        ensures { OnOk result (self.new ≡ after_apply_each self.old tx top primary writes.now) }
     {
         for write in writes {
             self.store(write)?;

@@ -1,7 +1,7 @@
 //! Lock queues.
 
 ghost use Rattle.std.specs.Prelude.{◌≡◌, ◌++◌, OnOk, IfOk, MatchOption};
-ghost use Rattle.base_words.specs.Queues.{edges_of, enqueued_in, first_blocked, keys_of, left_by, left_in, other_owner, owner_in, queue_in, standing_in, stands_in, waits_behind, waits_in, with_queue_in};
+ghost use Rattle.part_model.specs.Queues.{edges_of, first_blocked, is_queued, keys_queued_for, other_owner, owner_in, queue_in, queue_without, queued_txs, queues_with, queues_without, waits_behind, waits_in, with_queue_in};
 ghost use Rattle.node_steps.specs.Taking.{TakesNoQueue, TakesQueue};
 
 use crate::nodes::add_transactions;
@@ -15,7 +15,7 @@ pub type Queues = Table<Key, List<TxId>>;
 
 /// Whether the transaction stands in the queue.
 pub fn stands_in(tx: &TxId, queue: &[TxId]) -> bool
-    ensures { result ≡ stands_in tx.now queue.now }
+    ensures { result ≡ is_queued tx.now queue.now }
 {
     queue.iter().any(|other| *tx == *other)
 }
@@ -32,7 +32,7 @@ pub fn owner_in(queues: &Queues, key: &Key) -> Option<TxId>
 
 /// Takes the transaction out of the queue.
 fn leave(queue: &mut Vec<TxId>, tx: TxId)
-    ensures { queue.new.items ≡ left_by tx queue.old.items }
+    ensures { queue.new.items ≡ queue_without tx queue.old.items }
 {
     queue.retain(|other| *other != tx);
 }
@@ -64,7 +64,7 @@ fn put_queue(queues: &mut Queues, key: &Key, queue: List<TxId>) -> Mem<()>
 /// The transaction stands at the end of the key's queue.
 #[tactic(auto, using(act_rows::proofs::TableLaws::key_put_put, act_rows::proofs::TableLaws::key_without_put))]
 pub fn enqueue(alloc: Global, queues: &mut Queues, tx: TxId, key: &Key) -> Mem<()>
-    ensures { OnOk result (queues.new ≡ enqueued_in queues.old tx key.now) }
+    ensures { OnOk result (queues.new ≡ queues_with queues.old tx key.now) }
 {
     match take_queue(alloc, queues, key) {
         Some(mut queue) => {
@@ -82,7 +82,7 @@ pub fn enqueue(alloc: Global, queues: &mut Queues, tx: TxId, key: &Key) -> Mem<(
 /// Takes the transaction out of the key's queue.
 #[tactic(auto, using(act_rows::proofs::TableLaws::key_put_put, act_rows::proofs::TableLaws::key_without_put))]
 pub fn leave_queue(alloc: Global, queues: &mut Queues, tx: TxId, key: &Key) -> Mem<()>
-    ensures { OnOk result (queues.new ≡ left_in queues.old tx key.now) }
+    ensures { OnOk result (queues.new ≡ queues_without queues.old tx key.now) }
 {
     match take_queue(alloc, queues, key) {
         Some(queue) => {
@@ -96,7 +96,7 @@ pub fn leave_queue(alloc: Global, queues: &mut Queues, tx: TxId, key: &Key) -> M
 
 /// The keys in whose queues the transaction stands, in the keys' order.
 pub fn keys_of(alloc: Global, queues: &Queues, tx: &TxId) -> Mem<List<Key>>
-    ensures { IfOk result (λ keys. keys ≡ keys_of queues.now tx.now) }
+    ensures { IfOk result (λ keys. keys ≡ keys_queued_for queues.now tx.now) }
 {
     let mut keys = List::new(alloc);
     for (key, queue) in queues.as_slice() {
@@ -174,7 +174,7 @@ pub fn edges_of(alloc: Global, queues: &Queues, of: &[TxId]) -> Mem<List<Wait>>
 
 /// Each transaction that stands in some queue, once, ascending.
 pub fn standing_in(alloc: Global, queues: &Queues) -> Mem<Set<TxId>>
-    ensures { IfOk result (λ set. set ≡ standing_in queues.now) }
+    ensures { IfOk result (λ set. set ≡ queued_txs queues.now) }
 {
     let mut set = Set::new(alloc);
     for (_, queue) in queues.as_slice() {

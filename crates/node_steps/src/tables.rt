@@ -2,16 +2,16 @@
 
 ghost use Rattle.std.specs.Prelude.{◌≡◌, OnOk, [], MatchOption, Some};
 ghost use Rattle.std.specs.Option.{option_copied};
-ghost use Rattle.base_words.specs.Script.{no_progress};
-ghost use Rattle.base_words.specs.Tables.{without_each};
-ghost use Rattle.act_rows.specs.Commands.{new_desk, new_entry};
-ghost use Rattle.act_rows.specs.Steps.{answered, backup_name, desk_of, entry_of, share_of, with_backup, with_desk, with_entry, with_share};
-ghost use Rattle.node_steps.specs.Taking.{TakesDesk, TakesEntry, TakesNoDesk, TakesNoEntry, TakesNoShare, TakesShare, vacant_share};
+ghost use Rattle.part_model.specs.Script.{no_progress};
+ghost use Rattle.part_model.specs.Tables.{without_each};
+ghost use Rattle.act_rows.specs.Commands.{new_entry, new_session_state};
+ghost use Rattle.act_rows.specs.Steps.{backup_name, entry_of, session_state_of, share_of, with_answer_ready, with_backup, with_entry, with_session_state, with_share};
+ghost use Rattle.node_steps.specs.Taking.{TakesSessionState, TakesEntry, TakesNoSessionState, TakesNoEntry, TakesNoShare, TakesShare, vacant_share};
 
 use crate::node::Node;
-use base_words::{Phase, Progress};
+use part_model::{Phase, Progress};
 use ignite_types::{Answer, Item, List, Mem, Mode, NodeId, ShareState, TopVer, TxId};
-use node_state::{BackupName, BackupShare, Desk, OwnShare, TxEntry, TxState};
+use node_state::{BackupName, BackupShare, SessionState, OwnShare, TxEntry, TxState};
 use ordered_set::Set;
 use ordered_table::Table;
 use std::alloc::Global;
@@ -37,10 +37,10 @@ pub fn new_progress(alloc: Global) -> Progress
 }
 
 /// A session before its first command; it takes no memory.
-pub fn new_desk(alloc: Global, script: List<Item>) -> Desk
-    ensures { result ≡ new_desk script }
+pub fn new_session_state(alloc: Global, script: List<Item>) -> SessionState
+    ensures { result ≡ new_session_state script }
 {
-    Desk {
+    SessionState {
         script,
         progress: new_progress(alloc),
         pending: None,
@@ -91,40 +91,40 @@ fn vacant_share(alloc: Global) -> OwnShare
 }
 
 impl Node {
-    pub fn desk(&self, session: u32) -> Option<&Desk>
-        ensures { option_copied result ≡ desk_of self.now session }
+    pub fn session_state(&self, session: u32) -> Option<&SessionState>
+        ensures { option_copied result ≡ session_state_of self.now session }
     {
-        self.state.desks.get(&session)
+        self.state.session_states.get(&session)
     }
 
-    /// Takes a session's desk, to be put back changed.
-    pub fn take_desk(&mut self, session: u32) -> Option<Desk>
-        ensures { MatchOption result (TakesNoDesk self.old self.new session) (TakesDesk self.old self.new session) }
+    /// Takes a session's state, to be put back changed.
+    pub fn take_session_state(&mut self, session: u32) -> Option<SessionState>
+        ensures { MatchOption result (TakesNoSessionState self.old self.new session) (TakesSessionState self.old self.new session) }
     {
-        if self.state.desks.get(&session).is_some() {
-            let vacant = new_desk(self.alloc, List::new(self.alloc));
-            Some(self.state.desks.replace(session, vacant))
+        if self.state.session_states.get(&session).is_some() {
+            let vacant = new_session_state(self.alloc, List::new(self.alloc));
+            Some(self.state.session_states.replace(session, vacant))
         } else {
             None
         }
     }
 
-    pub fn put_desk(&mut self, session: u32, desk: Desk) -> Mem<()>
-        ensures { OnOk result (self.new ≡ with_desk self.old session desk) }
+    pub fn put_session_state(&mut self, session: u32, session_state: SessionState) -> Mem<()>
+        ensures { OnOk result (self.new ≡ with_session_state self.old session session_state) }
     {
-        self.state.desks.set(session, desk)
+        self.state.session_states.set(session, session_state)
     }
 
     /// Makes the answer of a session's pending command ready.
     #[tactic(auto, using(act_rows::proofs::TableLaws::nat_put_put))]
     pub fn answer(&mut self, session: u32, answer: Answer) -> Mem<()>
-        ensures { OnOk result (self.new ≡ answered self.old session answer) }
+        ensures { OnOk result (self.new ≡ with_answer_ready self.old session answer) }
     {
-        let Some(mut desk) = self.take_desk(session) else {
+        let Some(mut session_state) = self.take_session_state(session) else {
             return Ok(());
         };
-        desk.ready = Some(answer);
-        self.put_desk(session, desk)
+        session_state.ready = Some(answer);
+        self.put_session_state(session, session_state)
     }
 
     pub fn entry(&self, tx: &TxId) -> Option<&TxEntry>

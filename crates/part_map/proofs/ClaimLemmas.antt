@@ -6,7 +6,7 @@ use Rattle.std.specs.List.{list_any}
 use Rattle.ignite_types.specs.declared.message.Single.{Single}
 use Rattle.ignite_types.specs.declared.names.NodeId.{NodeId}
 use Rattle.ignite_types.specs.declared.names.TopVer.{TopVer}
-use Rattle.base_words.specs.NextMap.{is_claimed, single_of}
+use Rattle.part_model.specs.NextMap.{is_claimed, single_of}
 use Rattle.part_map.specs.Claims.{IsTable}
 
 -- of the partitions below `parts`, those marked so far and those still to be listed are those that are listed at all

@@ -3,7 +3,7 @@ use Rattle.std.specs.Prelude.{◌≡◌, ℕ, ◌<◌, ◌==◌, Bool, false, Li
 use Rattle.std.specs.List.{list_any, slice_index_or}
 use Rattle.ignite_types.specs.declared.message.Single.{Single}
 use Rattle.ignite_types.specs.declared.names.TopVer.{TopVer}
-use Rattle.base_words.specs.NextMap.{is_claimed}
+use Rattle.part_model.specs.NextMap.{is_claimed}
 
 -- of so many partitions, just those that are listed are marked
 pub record AreListed (parts : ℕ) (complete : List ℕ) (marks : List Bool) : Type 0 where

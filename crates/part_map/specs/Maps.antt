@@ -8,20 +8,20 @@ abbrev pub owners_of : Option Row → List NodeId
 owners_of None = []
 owners_of (Some row) = row.owners
 
-abbrev pub movers_of : Option Row → List NodeId
-movers_of None = []
-movers_of (Some row) = row.movers
+abbrev pub movers_of_row : Option Row → List NodeId
+movers_of_row None = []
+movers_of_row (Some row) = row.movers
 
 abbrev pub owners_at : PartMap → ℕ → List NodeId
 owners_at map part = owners_of (slice_get map.rows part)
 
 abbrev pub movers_at : PartMap → ℕ → List NodeId
-movers_at map part = movers_of (slice_get map.rows part)
+movers_at map part = movers_of_row (slice_get map.rows part)
 
-abbrev pub has_some : List NodeId → Bool
-has_some [] = false
-has_some (node ∷ nodes) = true
+abbrev pub is_not_empty : List NodeId → Bool
+is_not_empty [] = false
+is_not_empty (node ∷ nodes) = true
 
 -- whether the partition has an owner
 abbrev pub runs : PartMap → ℕ → Bool
-runs map part = has_some (owners_at map part)
+runs map part = is_not_empty (owners_at map part)

@@ -4,7 +4,7 @@ ghost use Rattle.std.specs.Prelude.{◌≡◌, ◌<◌, ◌==◌, [], false, IfO
 ghost use Rattle.std.specs.List.{list_any, slice_index_or};
 ghost use Rattle.std.specs.Option.{option_copied};
 ghost use Rattle.part_map.specs.Claims.{AreClaimed, AreListed, IsTable};
-ghost use Rattle.base_words.specs.NextMap.{is_claimed, is_under, single_of};
+ghost use Rattle.part_model.specs.NextMap.{is_claimed, is_under, single_of};
 
 use ignite_types::{List, Mem, NodeId, PartMap, Single, TopVer};
 use std::alloc::Global;

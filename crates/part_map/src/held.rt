@@ -1,7 +1,7 @@
 //! Which nodes hold a complete copy of a partition.
 
 ghost use Rattle.std.specs.Prelude.{◌≡◌, ◌<◌, ◌++◌, filter, IfOk, OnOk};
-ghost use Rattle.base_words.specs.NextMap.{has_node, held, is_filled, is_member, missing};
+ghost use Rattle.part_model.specs.NextMap.{has_node, is_filled, is_member, map_holders, nodes_missing};
 
 use crate::claims::Claims;
 use ignite_types::{List, Mem, Member, NodeId, Row};
@@ -67,7 +67,7 @@ pub(crate) fn held(
     row: &Row,
 ) -> Mem<List<NodeId>>
     requires { part < claims.now.parts }
-    ensures { IfOk result (λ holders. holders ≡ held members.now claims.now.singles.now claims.now.version part row.now) }
+    ensures { IfOk result (λ holders. holders ≡ map_holders members.now claims.now.singles.now claims.now.version part row.now) }
 {
     let mut holders = List::new(alloc);
     push_members(&mut holders, members, row.owners.as_slice())?;
@@ -78,7 +78,7 @@ pub(crate) fn held(
 
 /// The wanted nodes that are no holders.
 pub(crate) fn missing(alloc: Global, wanted: &[NodeId], holders: &[NodeId]) -> Mem<List<NodeId>>
-    ensures { IfOk result (λ nodes. nodes ≡ missing wanted.now holders.now) }
+    ensures { IfOk result (λ nodes. nodes ≡ nodes_missing wanted.now holders.now) }
 {
     let mut nodes = List::new(alloc);
     for node in wanted {

@@ -2,7 +2,7 @@
 
 ghost use Rattle.std.specs.Prelude.{◌≡◌, None};
 ghost use Rattle.std.specs.Option.{option_copied};
-ghost use Rattle.base_words.specs.NextMap.{is_higher, newer, newest_from};
+ghost use Rattle.part_model.specs.NextMap.{is_higher, newer_map, newest_map_from};
 
 use ignite_types::{PartMap, Single, TopVer};
 
@@ -15,7 +15,7 @@ fn is_higher(a: TopVer, b: TopVer) -> bool
 
 /// The map of higher version; of two of one version the first.
 fn newer<'a>(best: Option<&'a PartMap>, next: Option<&'a PartMap>) -> Option<&'a PartMap>
-    ensures { option_copied result ≡ newer (option_copied best.entry) (option_copied next.entry) }
+    ensures { option_copied result ≡ newer_map (option_copied best.entry) (option_copied next.entry) }
 {
     match (best, next) {
         (None, _) => next,
@@ -32,7 +32,7 @@ fn newer<'a>(best: Option<&'a PartMap>, next: Option<&'a PartMap>) -> Option<&'a
 
 /// The map of highest version, where a single has a map.
 pub(crate) fn newest(singles: &[Single]) -> Option<&PartMap>
-    ensures { option_copied result ≡ newest_from None singles.now }
+    ensures { option_copied result ≡ newest_map_from None singles.now }
 {
     let mut best = None;
     for single in singles {

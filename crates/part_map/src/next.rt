@@ -2,7 +2,7 @@
 
 ghost use Rattle.std.specs.Prelude.{◌≡◌, ◌<◌, ◌≤◌, [], length, unwrap_or, IfOk};
 ghost use Rattle.std.specs.Option.{option_copied};
-ghost use Rattle.base_words.specs.NextMap.{next_map, next_row, next_rows, no_map, row_of_holders, row_or_bare, running_row, servers};
+ghost use Rattle.part_model.specs.NextMap.{next_map, next_row, next_rows, no_map, row_of_holders, row_or_bare, running_row, servers};
 
 use crate::claims::Claims;
 use crate::held::{held, missing};

@@ -7,13 +7,13 @@ use Rattle.ignite_types.specs.declared.names.NodeId.{NodeId}
 use Rattle.ignite_types.specs.declared.placement.Row.{Row}
 use Rattle.node_state.specs.Node.{NodeState}
 
-abbrev pub has_some : List NodeId → Bool
-has_some [] = false
-has_some (node ∷ nodes) = true
+abbrev pub has_movers : List NodeId → Bool
+has_movers [] = false
+has_movers (node ∷ nodes) = true
 
 -- whether a partition has a mover
 abbrev pub has_mover : List Row → Bool
-has_mover rows = list_any (λ (row : Row). has_some row.movers) rows
+has_mover rows = list_any (λ (row : Row). has_movers row.movers) rows
 
 -- whether each mover has claimed
 abbrev pub all_claim : NodeState → List Row → Bool

@@ -2,9 +2,9 @@
 
 ghost use Rattle.std.specs.Prelude.{◌≡◌, ◌∷◌, [], IfOk, OnOk, filter, is_some, not};
 ghost use Rattle.std.specs.Option.{option_copied};
-ghost use Rattle.act_rows.specs.Exchange.{all_installed, all_sent, computes, computes_if_all, counts, full_row, installed_row, is_newer_map, may_compute, next_map_seen, opens_for_all, others_seen, single_row, singles_under, without_single, without_singles};
-ghost use Rattle.base_words.specs.NextMap.{single_of};
-ghost use Rattle.base_words.specs.Orders.{is_lower_top};
+ghost use Rattle.act_rows.specs.Exchange.{after_compute, after_compute_if_all, after_count, after_full, after_installed, after_open_for_all, after_single, all_installed, all_sent, is_newer_map, may_compute, next_map_seen, others_seen, singles_under, without_single, without_singles};
+ghost use Rattle.part_model.specs.NextMap.{single_of};
+ghost use Rattle.part_model.specs.Orders.{is_lower_top};
 ghost use Rattle.ignite_types.specs.Names.{same_node, same_top};
 ghost use Rattle.partition_exchange.specs.Coordinating.{publishes, with_single};
 
@@ -37,7 +37,7 @@ fn all_installed(members: &[Member], nodes: &Set<NodeId>) -> bool
 
 /// The exchange is over: each other member is told that the version is open, and it opens here.
 fn open_for_all(node: &mut Node, top: TopVer) -> Mem<()>
-    ensures { OnOk result (node.new ≡ opens_for_all node.old top) }
+    ensures { OnOk result (node.new ≡ after_open_for_all node.old top) }
 {
     let others = others(node)?;
     let outs = outs_to(node.alloc, others.as_slice(), &Message::Opens { top })?;
@@ -48,7 +48,7 @@ fn open_for_all(node: &mut Node, top: TopVer) -> Mem<()>
 
 /// The exchange in work has the word of these members; with that of all of them the version is open.
 fn count(node: &mut Node, exchange: Exchange) -> Mem<()>
-    ensures { OnOk result (node.new ≡ counts node.old exchange) }
+    ensures { OnOk result (node.new ≡ after_count node.old exchange) }
 {
     let top = exchange.top;
     let all = all_installed(node.state.members.as_slice(), &exchange.installed);
@@ -163,7 +163,7 @@ fn alone(node: &Node) -> Mem<Set<NodeId>>
 
 /// The coordinator installs the map that it computed, counts itself, and tells the others.
 fn compute(node: &mut Node, map: PartMap) -> Mem<()>
-    ensures { OnOk result (node.new ≡ computes node.old map) }
+    ensures { OnOk result (node.new ≡ after_compute node.old map) }
 {
     let top = map.top;
     let installed = alone(node)?;
@@ -172,7 +172,7 @@ fn compute(node: &mut Node, map: PartMap) -> Mem<()>
 }
 
 fn compute_if_all(node: &mut Node) -> Mem<()>
-    ensures { OnOk result (node.new ≡ computes_if_all node.old) }
+    ensures { OnOk result (node.new ≡ after_compute_if_all node.old) }
 {
     if may_compute(node) {
         let map = next_map_seen(node)?;
@@ -196,7 +196,7 @@ pub fn on_single(
     map: Option<PartMap>,
     complete: List<u32>,
 ) -> Mem<()>
-    ensures { OnOk result (node.new ≡ single_row node.old from top map complete) }
+    ensures { OnOk result (node.new ≡ after_single node.old from top map complete) }
 {
     let single = Single {
         from,
@@ -220,7 +220,7 @@ fn is_newer(map: &PartMap, installed: Option<&PartMap>) -> bool
 
 /// Full: a map is installed where none of its version or a higher one is.
 pub fn on_full(node: &mut Node, from: NodeId, map: PartMap) -> Mem<()>
-    ensures { OnOk result (node.new ≡ full_row node.old from map) }
+    ensures { OnOk result (node.new ≡ after_full node.old from map) }
 {
     if is_newer(&map, node.state.installed.as_ref()) {
         let top = map.top;
@@ -233,7 +233,7 @@ pub fn on_full(node: &mut Node, from: NodeId, map: PartMap) -> Mem<()>
 
 /// Installed: counted where it speaks of the exchange in work.
 pub fn on_installed(node: &mut Node, from: NodeId, top: TopVer) -> Mem<()>
-    ensures { OnOk result (node.new ≡ installed_row node.old from top) }
+    ensures { OnOk result (node.new ≡ after_installed node.old from top) }
 {
     let Some(mut exchange) = node.state.exchange.take() else {
         return Ok(());

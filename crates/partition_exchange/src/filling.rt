@@ -2,14 +2,14 @@
 
 ghost use Rattle.std.specs.Prelude.{◌≡◌, IfOk, OnOk, slice_set};
 ghost use Rattle.std.specs.List.{list_all};
-ghost use Rattle.act_rows.specs.Filling.{all_claimed, all_filled, claims_if_all, complete_row, completes, demand_row, has_claim, last_key, may_switch, movers_of, supplied_to, supply_row, with_copy};
-ghost use Rattle.base_words.specs.Copies.{batch_of, batch_size, copy_at, is_last_batch, supplied, without_marks};
+ghost use Rattle.act_rows.specs.Filling.{after_claim_if_all, after_complete, after_complete_part, after_demand, after_supplied, after_supply, all_claimed, all_filled, has_claim, last_key, may_switch, movers_in, with_copy};
+ghost use Rattle.part_model.specs.Copies.{batch_of, batch_size, copy_after_supply, copy_at, is_last_batch, without_tombstones};
 ghost use Rattle.partition_exchange.specs.Movers.{all_claim, has_mover};
 
 use crate::opening::rows;
 use ignite_types::{Key, List, Mem, Message, NodeId, Row, Stored, TopVer};
 use node_state::{Claim, Store};
-use node_steps::{Node, drop_marks, has_node, next_batch, supply};
+use node_steps::{Node, drop_tombstones, has_node, next_batch, supply};
 use std::alloc::Global;
 use std::mem;
 
@@ -35,7 +35,7 @@ pub fn on_demand(
     part: u32,
     after: Option<Key>,
 ) -> Mem<()>
-    ensures { OnOk result (node.new ≡ demand_row node.old from top part after) }
+    ensures { OnOk result (node.new ≡ after_demand node.old from top part after) }
 {
     if !node.is_installed(top) {
         return Ok(());
@@ -54,7 +54,7 @@ pub fn on_demand(
 
 /// Entries are supplied to the copy at this place, where there is one.
 fn supply_at(copies: &mut Vec<Store>, part: usize, entries: &[Stored]) -> Mem<()>
-    ensures { OnOk result (copies.new.items ≡ slice_set copies.old.items part (supplied (copy_at copies.old.items part) entries.now)) }
+    ensures { OnOk result (copies.new.items ≡ slice_set copies.old.items part (copy_after_supply (copy_at copies.old.items part) entries.now)) }
 {
     if copies.len() <= part {
         return Ok(());
@@ -63,7 +63,7 @@ fn supply_at(copies: &mut Vec<Store>, part: usize, entries: &[Stored]) -> Mem<()
 }
 
 fn supply_copy(node: &mut Node, part: u32, entries: &[Stored]) -> Mem<()>
-    ensures { OnOk result (node.new ≡ with_copy node.old part (supplied (copy_at node.old.stores part) entries.now)) }
+    ensures { OnOk result (node.new ≡ with_copy node.old part (copy_after_supply (copy_at node.old.stores part) entries.now)) }
 {
     let stores = mem::replace(&mut node.state.stores, List::new(node.alloc));
     let mut copies = stores.into_vec();
@@ -73,21 +73,21 @@ fn supply_copy(node: &mut Node, part: u32, entries: &[Stored]) -> Mem<()>
 }
 
 /// The marks of the copy at this place are dropped, where there is one.
-fn drop_marks_at(alloc: Global, copies: &mut Vec<Store>, part: usize) -> Mem<()>
-    ensures { OnOk result (copies.new.items ≡ slice_set copies.old.items part (without_marks (copy_at copies.old.items part))) }
+fn drop_tombstones_at(alloc: Global, copies: &mut Vec<Store>, part: usize) -> Mem<()>
+    ensures { OnOk result (copies.new.items ≡ slice_set copies.old.items part (without_tombstones (copy_at copies.old.items part))) }
 {
     if copies.len() <= part {
         return Ok(());
     }
-    drop_marks(alloc, &mut copies[part])
+    drop_tombstones(alloc, &mut copies[part])
 }
 
-fn drop_copy_marks(node: &mut Node, part: u32) -> Mem<()>
-    ensures { OnOk result (node.new ≡ with_copy node.old part (without_marks (copy_at node.old.stores part))) }
+fn drop_copy_tombstones(node: &mut Node, part: u32) -> Mem<()>
+    ensures { OnOk result (node.new ≡ with_copy node.old part (without_tombstones (copy_at node.old.stores part))) }
 {
     let stores = mem::replace(&mut node.state.stores, List::new(node.alloc));
     let mut copies = stores.into_vec();
-    drop_marks_at(node.alloc, &mut copies, part as usize)?;
+    drop_tombstones_at(node.alloc, &mut copies, part as usize)?;
     node.state.stores = List::from_vec(copies);
     Ok(())
 }
@@ -108,7 +108,7 @@ fn all_filled(node: &Node) -> bool
 
 /// Once all that this node moves is complete the oldest member is told so.
 fn claim_if_all(node: &mut Node, top: TopVer) -> Mem<()>
-    ensures { OnOk result (node.new ≡ claims_if_all node.old top) }
+    ensures { OnOk result (node.new ≡ after_claim_if_all node.old top) }
 {
     if all_filled(node) {
         let oldest = node.oldest();
@@ -118,11 +118,11 @@ fn claim_if_all(node: &mut Node, top: TopVer) -> Mem<()>
     }
 }
 
-/// The partition is complete, and its marks are dropped.
+/// The partition is complete, and its tombstones are dropped.
 fn complete(node: &mut Node, top: TopVer, part: u32) -> Mem<()>
-    ensures { OnOk result (node.new ≡ completes node.old top part) }
+    ensures { OnOk result (node.new ≡ after_complete_part node.old top part) }
 {
-    drop_copy_marks(node, part)?;
+    drop_copy_tombstones(node, part)?;
     node.state.complete.insert(part)?;
     claim_if_all(node, top)
 }
@@ -146,7 +146,7 @@ fn go_on(
     entries: &[Stored],
     last: bool,
 ) -> Mem<()>
-    ensures { OnOk result (node.new ≡ supplied_to node.old from top part entries.now last) }
+    ensures { OnOk result (node.new ≡ after_supplied node.old from top part entries.now last) }
 {
     if last {
         complete(node, top, part)
@@ -165,7 +165,7 @@ pub fn on_supply(
     entries: &[Stored],
     last: bool,
 ) -> Mem<()>
-    ensures { OnOk result (node.new ≡ supply_row node.old from top part entries.now last) }
+    ensures { OnOk result (node.new ≡ after_supply node.old from top part entries.now last) }
 {
     if node.is_installed(top) {
         supply_copy(node, part, entries)?;
@@ -177,7 +177,7 @@ pub fn on_supply(
 
 /// Complete: the sender's claim is kept.
 pub fn on_complete(node: &mut Node, from: NodeId, top: TopVer) -> Mem<()>
-    ensures { OnOk result (node.new ≡ complete_row node.old from top) }
+    ensures { OnOk result (node.new ≡ after_complete node.old from top) }
 {
     node.state.claims.insert(Claim { top, node: from })
 }
@@ -214,7 +214,7 @@ fn all_claim(node: &Node, rows: &[Row]) -> bool
 
 /// Whether there are movers and each of them has claimed.
 fn all_claimed(node: &Node, rows: &[Row]) -> bool
-    ensures { result ≡ all_claimed node.now (movers_of rows.now) }
+    ensures { result ≡ all_claimed node.now (movers_in rows.now) }
 {
     has_mover(rows) && all_claim(node, rows)
 }

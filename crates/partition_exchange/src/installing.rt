@@ -2,9 +2,9 @@
 
 ghost use Rattle.std.specs.Prelude.{◌≡◌, [], if◌then◌else◌, IfOk, OnOk};
 ghost use Rattle.std.specs.Option.{option_copied};
-ghost use Rattle.act_rows.specs.Exchange.{installs, is_kept_commit, kept_copies};
+ghost use Rattle.act_rows.specs.Exchange.{after_install, is_kept_commit, kept_copies};
 ghost use Rattle.act_rows.specs.Steps.{is_owner_in};
-ghost use Rattle.base_words.specs.Tables.{keys_where};
+ghost use Rattle.part_model.specs.Tables.{keys_where};
 
 use ignite_types::{List, Mem, NodeId, PartMap, Rec, Row, ShareState, TxId};
 use node_state::{BackupName, BackupShare, OwnShare, Store};
@@ -82,7 +82,7 @@ fn committed_backups(
 
 /// A new map clears the copies that are not owned in it, near caches, readers, remembered commits, and what was filled.
 pub fn install(node: &mut Node, map: PartMap) -> Mem<()>
-    ensures { OnOk result (node.new ≡ installs node.old map) }
+    ensures { OnOk result (node.new ≡ after_install node.old map) }
 {
     let alloc = node.alloc;
     let noted = map.copy(alloc)?;

@@ -1,7 +1,7 @@
 //! A version opens at a node.
 
 ghost use Rattle.std.specs.Prelude.{◌≡◌, ◌++◌, IfOk, OnOk};
-ghost use Rattle.act_rows.specs.Exchange.{demand_outs, demands, demands_of, opens_row};
+ghost use Rattle.act_rows.specs.Exchange.{after_opens, after_send_demands, demand_outs, demands_of};
 ghost use Rattle.act_rows.specs.Steps.{rows_of};
 ghost use Rattle.ignite_types.specs.Placement.{first_owner};
 
@@ -56,7 +56,7 @@ fn demand_outs(alloc: Global, me: NodeId, top: TopVer, rows: &[Row]) -> Mem<List
 
 /// The copies of movers begin to be filled.
 fn demand(node: &mut Node) -> Mem<()>
-    ensures { OnOk result (node.new ≡ demands node.old) }
+    ensures { OnOk result (node.new ≡ after_send_demands node.old) }
 {
     let outs = demand_outs(node.alloc, node.state.me, node.installed_top(), rows(node))?;
     node.send_all(outs)
@@ -64,7 +64,7 @@ fn demand(node: &mut Node) -> Mem<()>
 
 /// The version is open here: what waits for it starts, and a mover asks for its partitions.
 pub fn on_opens(node: &mut Node, top: TopVer) -> Mem<()>
-    ensures { OnOk result (node.new ≡ opens_row node.old top) }
+    ensures { OnOk result (node.new ≡ after_opens node.old top) }
 {
     node.state.opened = Some(top);
     node.note(Rec::Opened { top })?;

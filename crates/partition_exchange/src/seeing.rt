@@ -1,8 +1,8 @@
 //! A node reads the topology's events.
 
 ghost use Rattle.std.specs.Prelude.{◌≡◌, OnOk, fold};
-ghost use Rattle.act_rows.specs.Exchange.{learned, learns, left_after};
-ghost use Rattle.base_words.specs.Orders.{raised};
+ghost use Rattle.act_rows.specs.Exchange.{after_learn, after_learn_all, left_after};
+ghost use Rattle.part_model.specs.Orders.{next_count};
 
 use discovery_order::{change_members, change_running, version_after};
 use ignite_types::{Mem, NodeId, TopoEvent};
@@ -22,7 +22,7 @@ fn change_left(left: &mut Set<NodeId>, event: &TopoEvent) -> Mem<()>
 /// Reads an event: the last version seen and its members are at once those of the event, and an exchange of an older version
 /// is dropped.
 pub fn learn(node: &mut Node, event: &TopoEvent) -> Mem<()>
-    ensures { OnOk result (node.new ≡ learns node.old event.now) }
+    ensures { OnOk result (node.new ≡ after_learn node.old event.now) }
 {
     node.state.read = node.state.read.saturating_add(1);
     node.state.seen = version_after(node.state.seen, event);
@@ -35,7 +35,7 @@ pub fn learn(node: &mut Node, event: &TopoEvent) -> Mem<()>
 
 /// Reads each of these events.
 fn learn_each(node: &mut Node, events: &[TopoEvent]) -> Mem<()>
-    ensures { OnOk result (node.new ≡ fold learns node.old events.now) }
+    ensures { OnOk result (node.new ≡ fold after_learn node.old events.now) }
 {
     for event in events {
         learn(node, event)?;
@@ -45,7 +45,7 @@ fn learn_each(node: &mut Node, events: &[TopoEvent]) -> Mem<()>
 
 /// What a joiner knows of the events before its own Join, and the clock.
 pub fn learn_all(node: &mut Node, events: &[TopoEvent], now: u64) -> Mem<()>
-    ensures { OnOk result (node.new ≡ learned node.old events.now now) }
+    ensures { OnOk result (node.new ≡ after_learn_all node.old events.now now) }
 {
     learn_each(node, events)?;
     node.state.now = now;

@@ -2,8 +2,8 @@
 use Rattle.std.proofs.Common.{◌≡◌, ℕ, zero, suc, ◌+◌, ◌-◌, ◌^◌, ◌<◌, ◌≤◌, Bool, true, false, List, [], ◌∷◌, ◌&&◌, cond, filter, length, map, min, take, is_some, Option, nat_le, refl, ap, sym, ◌∙◌, arith}
 use Rattle.std.proofs.lemmas.Bool.Decides.{nat_tests}
 use Rattle.std.proofs.lemmas.List.{length-take}
-use Rattle.base_words.specs.Copies.{Copy, batch_of, entries_of, is_after, is_last_batch, stored_entry, values_after}
-use Rattle.base_words.specs.declared.copies.Entry.{Entry}
+use Rattle.part_model.specs.Copies.{Copy, batch_of, entries_of, is_after, is_last_batch, stored_entry, values_after}
+use Rattle.part_model.specs.declared.copies.Entry.{Entry}
 use Rattle.ignite_types.specs.declared.text.Key.{Key}
 
 -- the values after a key, as entries

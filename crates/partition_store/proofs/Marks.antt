@@ -6,8 +6,8 @@ use Rattle.std.specs.Cmp.{IsTotalOrder, then_total, on_total, nat_cmp_total}
 use Rattle.std.specs.Cmp.Lexicographic.{nat_list_cmp_total}
 use Rattle.std.specs.Ordering.{ordering_reverse}
 use Rattle.std.proofs.lemmas.Cmp.{tied_itself}
-use Rattle.base_words.specs.Copies.{Copy, is_mark, without_marks}
-use Rattle.base_words.specs.Tables.{keys_where, without_each}
+use Rattle.part_model.specs.Copies.{Copy, is_tombstone, without_tombstones}
+use Rattle.part_model.specs.Tables.{keys_where, without_each}
 use Rattle.ignite_types.specs.Names.{key_cmp}
 use Rattle.ignite_types.specs.declared.text.Key.{Key}
 use Rattle.ordered_table.specs.Entries.{without}
@@ -45,5 +45,5 @@ module _ {K V : Type 0} (cmp : K → K → Ordering) where
 keys_ordered : IsTotalOrder key_cmp
 keys_ordered = then_total (on_total (λ (k : Key). k.cache) nat_cmp_total) (on_total (λ (k : Key). k.text) nat_list_cmp_total)
 
-pub marks_dropped : (copy : Copy) → IsAscending key_cmp copy → filter (λ e. not (is_mark e)) copy ≡ without_marks copy
-marks_dropped copy ascending = without_passing key_cmp keys_ordered is_mark copy ascending
+pub tombstones_dropped : (copy : Copy) → IsAscending key_cmp copy → filter (λ e. not (is_tombstone e)) copy ≡ without_tombstones copy
+tombstones_dropped copy ascending = without_passing key_cmp keys_ordered is_tombstone copy ascending

@@ -2,7 +2,7 @@
 use Rattle.std.specs.Prelude.{ℕ, Option, slice_set}
 use Rattle.std.specs.Borrow.{LendsIf, MutBor, Fml}
 use Rattle.ignite_types.specs.declared.list.List.{List}
-use Rattle.base_words.specs.Copies.{Copy}
+use Rattle.part_model.specs.Copies.{Copy}
 use Rattle.partition_store.specs.contracts.store.Store.{the_row as store_row}
 use Rattle.partition_store.specs.contracts.stores.Stores.{the_row}
 

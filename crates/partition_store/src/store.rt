@@ -1,12 +1,12 @@
 //! One partition's copy: what it has at a key, what a write does to it, and how it is filled in batches.
 
 ghost use Rattle.std.specs.Prelude.{◌≡◌, ◌&&◌, [], OnOk, OnErr, IfOk, is_some, not, take, ℕ};
-ghost use Rattle.base_words.specs.Copies.{applied_to, batch_of, entries_of, found_in, is_after, is_last_batch, is_mark, kept, supplied, supplied_over, without_marks};
-ghost use Rattle.base_words.specs.Orders.{is_lower};
+ghost use Rattle.part_model.specs.Copies.{batch_of, copy_after_supply, copy_after_write, entries_of, found_in, is_after, is_last_batch, is_tombstone, with_kept, with_supplied_over, without_tombstones};
+ghost use Rattle.part_model.specs.Orders.{is_lower};
 ghost use Rattle.ignite_types.specs.Names.{key_cmp};
 ghost use Rattle.ordered_table.specs.Entries.{at};
 
-use base_words::Entry;
+use part_model::Entry;
 use hash_table::{EntryTest, HashTable};
 use ignite_types::{CacheVersion, Found, Key, List, Mem, Stored};
 use std::alloc::Global;
@@ -22,7 +22,7 @@ pub struct Store {
 }
 
 impl Model for Store {
-    ghost use Rattle.base_words.specs.Copies.{Copy};
+    ghost use Rattle.part_model.specs.Copies.{Copy};
 
     ghost Value = { Copy };
 
@@ -50,12 +50,12 @@ impl EntryTest<Key, Entry> for ValueAfter {
     }
 }
 
-/// Passes what is no mark.
+/// Passes what is no tombstone.
 #[derive(Clone, Copy)]
 struct IsNoMark;
 
 impl EntryTest<Key, Entry> for IsNoMark {
-    ghost passes = { λ _ e. not (is_mark e) };
+    ghost passes = { λ _ e. not (is_tombstone e) };
 
     fn passes(&self, _key: &Key, entry: &Entry) -> bool {
         entry.value.is_some()
@@ -109,7 +109,7 @@ impl Store {
         }
     }
 
-    /// The value at the key with its version; a mark is none.
+    /// The value at the key with its version; a tombstone is none.
     pub fn get(&self, key: &Key) -> Found
         ensures { result ≡ found_in self.now key.now }
     {
@@ -118,9 +118,9 @@ impl Store {
         Some((value, entry.ver))
     }
 
-    /// Takes a write, unless what is there is newer. Of a removal a mark is kept while the copy is filled.
+    /// Takes a write, unless what is there is newer. Of a removal a tombstone is kept while the copy is filled.
     pub fn apply(&mut self, write: Stored, filling: bool) -> Mem<()>
-        ensures ok { OnOk result (self.new ≡ applied_to self.old write filling) }
+        ensures ok { OnOk result (self.new ≡ copy_after_write self.old write filling) }
         ensures err { OnErr result (self.new ≡ self.old) }
     {
         match self.entries.get(&write.key) {
@@ -135,9 +135,9 @@ impl Store {
         }
     }
 
-    /// Keeps a written value; of a removal a mark while the copy is filled, else nothing.
+    /// Keeps a written value; of a removal a tombstone while the copy is filled, else nothing.
     fn keep(&mut self, write: &Stored, filling: bool) -> Mem<()>
-        ensures ok { OnOk result (self.new ≡ kept self.old write.now filling write.now.value) }
+        ensures ok { OnOk result (self.new ≡ with_kept self.old write.now filling write.now.value) }
         ensures err { OnErr result (self.new ≡ self.old) }
     {
         let value = write.value;
@@ -171,8 +171,8 @@ impl Store {
 
     /// Takes supplied entries, each where it is newer than what is there. Where memory ends, the first ones are taken.
     pub fn take_supplied(&mut self, entries: &[Stored]) -> Mem<()>
-        ensures ok { OnOk result (self.new ≡ supplied self.old entries.now) }
-        ensures err { OnErr result ((taken : ℕ) × (self.new ≡ supplied self.old (take taken entries.now))) }
+        ensures ok { OnOk result (self.new ≡ copy_after_supply self.old entries.now) }
+        ensures err { OnErr result ((taken : ℕ) × (self.new ≡ copy_after_supply self.old (take taken entries.now))) }
     {
         for entry in entries {
             self.take_one(entry)?;
@@ -182,7 +182,7 @@ impl Store {
 
     /// Takes a supplied entry where it is newer than what is there.
     fn take_one(&mut self, entry: &Stored) -> Mem<()>
-        ensures ok { OnOk result (self.new ≡ supplied_over self.old entry.now (at key_cmp self.old entry.now.key)) }
+        ensures ok { OnOk result (self.new ≡ with_supplied_over self.old entry.now (at key_cmp self.old entry.now.key)) }
         ensures err { OnErr result (self.new ≡ self.old) }
     {
         let value = entry.value;
@@ -199,9 +199,9 @@ impl Store {
         }
     }
 
-    /// Drops the marks, which a filled copy does not need; it takes no memory.
-    pub fn drop_marks(&mut self)
-        ensures { self.new ≡ without_marks self.old }
+    /// Drops the tombstones, which a filled copy does not need; it takes no memory.
+    pub fn drop_tombstones(&mut self)
+        ensures { self.new ≡ without_tombstones self.old }
     {
         self.entries.retain(&IsNoMark);
     }
@@ -213,7 +213,7 @@ impl Store {
         self.entries.clear();
     }
 
-    /// All values and marks by key: one sort of the keys.
+    /// All values and tombstones by key: one sort of the keys.
     pub fn entries(&self) -> Mem<List<Stored>>
         ensures { IfOk result (λ entries. entries ≡ entries_of self.now) }
     {
@@ -266,7 +266,7 @@ mod tests {
         assert_eq!(rt; store.entries()?.as_slice(), [removal].as_slice());
         let batch = store.supply_batch(None, 16)?;
         assert!(rt; batch.last && batch.entries.is_empty());
-        store.drop_marks();
+        store.drop_tombstones();
         assert!(rt; store.entries()?.is_empty());
         Ok(())
     }

@@ -19,7 +19,7 @@ pub struct Stores {
 
 impl Model for Stores {
     ghost use Rattle.std.specs.Prelude.{List};
-    ghost use Rattle.base_words.specs.Copies.{Copy};
+    ghost use Rattle.part_model.specs.Copies.{Copy};
 
     ghost Value = { List Copy };
 

@@ -1,6 +1,6 @@
 -- What it means that the readers of a key were taken out to be changed: none stand in their place.
 use Rattle.std.specs.Prelude.{None, Some, [], ◌≡◌}
-use Rattle.base_words.specs.NearEntries.{Readers}
+use Rattle.part_model.specs.NearEntries.{Readers}
 use Rattle.ignite_types.specs.Names.{key_cmp}
 use Rattle.ignite_types.specs.declared.list.List.{List}
 use Rattle.ignite_types.specs.declared.names.NodeId.{NodeId}

@@ -5,5 +5,5 @@ use Rattle.ignite_types.specs.declared.names.NodeId.{NodeId}
 use Rattle.ignite_types.specs.declared.text.Key.{Key}
 use Rattle.node_state.specs.declared.primary.NearWait.{NearWait}
 
-abbrev pub waits_for : Key → List NodeId → List NearWait
-waits_for key nodes = map (λ (n : NodeId). record { key = key; node = n }) nodes
+abbrev pub near_waits_at : Key → List NodeId → List NearWait
+near_waits_at key nodes = map (λ (n : NodeId). record { key = key; node = n }) nodes

@@ -1,7 +1,7 @@
 //! A backup's or mover's part in both phases.
 
 ghost use Rattle.std.specs.Prelude.{◌≡◌, OnOk, IfOk};
-ghost use Rattle.act_rows.specs.Backups.{backup_finish_by, backup_finish_row, backup_prepare_row, commits_backup, drops_backup};
+ghost use Rattle.act_rows.specs.Backups.{after_backup_finish, after_backup_finish_of, after_backup_prepare, after_commit_backup, without_backup};
 ghost use Rattle.act_rows.specs.Steps.{backup_of};
 
 use crate::primary::forget;
@@ -20,7 +20,7 @@ pub fn on_backup_prepare(
     primary: NodeId,
     writes: List<Stored>,
 ) -> Mem<()>
-    ensures { OnOk result (node.new ≡ backup_prepare_row node.old from tx top shares primary writes) }
+    ensures { OnOk result (node.new ≡ after_backup_prepare node.old from tx top shares primary writes) }
 {
     forget(node, &tx)?;
     let share = BackupShare {
@@ -46,7 +46,7 @@ fn copy_backup(alloc: Global, share: &BackupShare) -> Mem<BackupShare>
 
 /// The writes are done, and the share is kept as Committed.
 fn commit_backup(node: &mut Node, tx: TxId, primary: NodeId, share: BackupShare) -> Mem<()>
-    ensures { OnOk result (node.new ≡ commits_backup node.old tx primary share) }
+    ensures { OnOk result (node.new ≡ after_commit_backup node.old tx primary share) }
 {
     let mut kept = share;
     node.apply_all(tx, kept.top, primary, kept.writes.as_slice())?;
@@ -55,14 +55,14 @@ fn commit_backup(node: &mut Node, tx: TxId, primary: NodeId, share: BackupShare)
 }
 
 fn drop_backup(node: &mut Node, tx: TxId, primary: NodeId)
-    ensures { node.new ≡ drops_backup node.old tx primary }
+    ensures { node.new ≡ without_backup node.old tx primary }
 {
     let _dropped = node.state.backups.remove(&BackupName { tx, primary });
 }
 
 /// A Prepared share is committed, and any is dropped by a rollback.
 fn finish_backup(node: &mut Node, tx: TxId, primary: NodeId, commit: bool) -> Mem<()>
-    ensures { OnOk result (node.new ≡ backup_finish_by node.old tx primary commit (backup_of node.old tx primary)) }
+    ensures { OnOk result (node.new ≡ after_backup_finish_of node.old tx primary commit (backup_of node.old tx primary)) }
 {
     let Some(share) = node.state.backups.get(&BackupName { tx, primary }) else {
         return Ok(());
@@ -88,7 +88,7 @@ pub fn on_backup_finish(
     primary: NodeId,
     commit: bool,
 ) -> Mem<()>
-    ensures { OnOk result (node.new ≡ backup_finish_row node.old from tx primary commit) }
+    ensures { OnOk result (node.new ≡ after_backup_finish node.old from tx primary commit) }
 {
     finish_backup(node, tx, primary, commit)?;
     node.send(from, Message::BackupFinished { tx, primary })

@@ -2,12 +2,12 @@
 
 ghost use Rattle.std.specs.Prelude.{◌≡◌, ◌++◌, IfOk, OnOk, false, filter, not, true};
 ghost use Rattle.act_rows.specs.Decisions.{backup_finish_outs};
-ghost use Rattle.act_rows.specs.Primary.{adds_asker, backup_finished_by, begins_finish, ends_finish, finish_row, is_prepared, near_done_row, near_outs, near_waits, own_backup_finished, own_txs, primary_left, readers_but_me, share_after, share_left, share_on, shares_left, shares_on, undoes_share};
-ghost use Rattle.act_rows.specs.Locks.{releases};
-ghost use Rattle.act_rows.specs.Steps.{on_share, outs_to, sent_all, share_of};
-ghost use Rattle.act_rows.specs.Stores.{applied_all};
+ghost use Rattle.act_rows.specs.Primary.{after_advance_share, after_advance_shares, after_backup_finished_at_primary, after_backup_finished_of, after_finish, after_finished_share, after_left_at_primary, after_left_at_shares, after_near_done, after_share_prepared, after_undo_share, near_outs, near_waits, own_txs, readers_but_me, share_without_node, with_asker, with_finish_begun, with_finish_ended};
+ghost use Rattle.act_rows.specs.Locks.{after_release_all};
+ghost use Rattle.act_rows.specs.Steps.{on_share, outs_to, share_of, with_outs};
+ghost use Rattle.act_rows.specs.Stores.{after_apply_each};
 ghost use Rattle.ignite_types.specs.Names.{same_node};
-ghost use Rattle.prepare_finish.specs.Waits.{waits_for};
+ghost use Rattle.prepare_finish.specs.Waits.{near_waits_at};
 ghost use Rattle.ignite_types.specs.declared.placement.ShareState.TheVariants.{Committed, Prepared, Undoing};
 ghost use Rattle.ignite_types.specs.declared.message.Message.TheVariants as msg;
 
@@ -58,7 +58,7 @@ fn near_outs(node: &Node, tx: TxId, writes: &[Stored]) -> Mem<List<Out>>
 
 /// This key's update is awaited from each of these readers.
 fn waits_at(alloc: Global, key: &Key, readers: &[NodeId]) -> Mem<List<NearWait>>
-    ensures { IfOk result (λ waits. waits ≡ waits_for key.now readers.now) }
+    ensures { IfOk result (λ waits. waits ≡ near_waits_at key.now readers.now) }
 {
     let mut waits = List::new(alloc);
     for reader in readers {
@@ -72,7 +72,7 @@ fn waits_at(alloc: Global, key: &Key, readers: &[NodeId]) -> Mem<List<NearWait>>
 
 /// This write's update is awaited from each reader of its key.
 fn write_waits(node: &Node, write: &Stored) -> Mem<List<NearWait>>
-    ensures { IfOk result (λ waits. waits ≡ waits_for write.now.key (readers_but_me node.now write.now.key)) }
+    ensures { IfOk result (λ waits. waits ≡ near_waits_at write.now.key (readers_but_me node.now write.now.key)) }
 {
     let readers = readers_but_me(node, &write.key)?;
     waits_at(node.alloc, &write.key, readers.as_slice())
@@ -99,7 +99,7 @@ fn begin_finish(
     backups: List<NodeId>,
     near: List<NearWait>,
 ) -> Mem<()>
-    ensures { OnOk result (node.new ≡ begins_finish node.old tx state from backups near) }
+    ensures { OnOk result (node.new ≡ with_finish_begun node.old tx state from backups near) }
 {
     let Some(mut share) = node.take_share(tx) else {
         return Ok(());
@@ -121,8 +121,8 @@ fn commit_share(
     writes: &[Stored],
     backups: List<NodeId>,
 ) -> Mem<()>
-    ensures { OnOk result (node.new ≡ sent_all
-        (begins_finish (applied_all node.old tx top node.old.me writes.now) tx Committed from backups (near_waits node.old writes.now))
+    ensures { OnOk result (node.new ≡ with_outs
+        (with_finish_begun (after_apply_each node.old tx top node.old.me writes.now) tx Committed from backups (near_waits node.old writes.now))
         (backup_finish_outs tx node.old.me true backups ++ near_outs node.old tx writes.now)) }
 {
     let me = node.state.me;
@@ -137,7 +137,7 @@ fn commit_share(
 
 /// The writes are not done, and each backup and mover is told.
 fn undo_share(node: &mut Node, from: NodeId, tx: TxId, backups: List<NodeId>) -> Mem<()>
-    ensures { OnOk result (node.new ≡ undoes_share node.old from tx backups) }
+    ensures { OnOk result (node.new ≡ after_undo_share node.old from tx backups) }
 {
     let me = node.state.me;
     let outs = backup_finish_outs(node.alloc, tx, me, false, backups.as_slice())?;
@@ -149,7 +149,7 @@ fn undo_share(node: &mut Node, from: NodeId, tx: TxId, backups: List<NodeId>) ->
 /// One more node asked for the finish in work.
 #[tactic(auto, using(act_rows::proofs::TableLaws::tx_put_put))]
 fn add_asker(node: &mut Node, tx: TxId, from: NodeId) -> Mem<()>
-    ensures { OnOk result (node.new ≡ adds_asker node.old tx from) }
+    ensures { OnOk result (node.new ≡ with_asker node.old tx from) }
 {
     let Some(mut share) = node.take_share(tx) else {
         return Ok(());
@@ -160,7 +160,7 @@ fn add_asker(node: &mut Node, tx: TxId, from: NodeId) -> Mem<()>
 
 /// Finish: a Prepared share is committed or undone; without a share the places of the transaction are left at once.
 pub fn on_finish(node: &mut Node, from: NodeId, tx: TxId, commit: bool) -> Mem<()>
-    ensures { OnOk result (node.new ≡ finish_row node.old from tx commit) }
+    ensures { OnOk result (node.new ≡ after_finish node.old from tx commit) }
 {
     let here = &*node;
     let Some(share) = here.share(&tx) else {
@@ -187,7 +187,7 @@ pub fn on_finish(node: &mut Node, from: NodeId, tx: TxId, commit: bool) -> Mem<(
 
 /// BackupFinished of an own share counts while a finish is in work.
 fn backup_finished(node: &mut Node, from: NodeId, tx: TxId) -> Mem<()>
-    ensures { OnOk result (node.new ≡ backup_finished_by node.old from tx (share_of node.old tx)) }
+    ensures { OnOk result (node.new ≡ after_backup_finished_of node.old from tx (share_of node.old tx)) }
 {
     let Some(share) = node.share(&tx) else {
         return Ok(());
@@ -200,7 +200,7 @@ fn backup_finished(node: &mut Node, from: NodeId, tx: TxId) -> Mem<()>
 
 /// BackupFinished, where this node is the share's primary.
 pub fn on_own_backup_finished(node: &mut Node, from: NodeId, tx: TxId, primary: NodeId) -> Mem<()>
-    ensures { OnOk result (node.new ≡ own_backup_finished node.old from tx primary) }
+    ensures { OnOk result (node.new ≡ after_backup_finished_at_primary node.old from tx primary) }
 {
     if primary == node.state.me {
         backup_finished(node, from, tx)
@@ -212,7 +212,7 @@ pub fn on_own_backup_finished(node: &mut Node, from: NodeId, tx: TxId, primary: 
 /// NearDone: the reader is no longer awaited.
 #[tactic(auto, using(act_rows::proofs::TableLaws::tx_put_put))]
 pub fn on_near_done(node: &mut Node, from: NodeId, tx: TxId, key: Key) -> Mem<()>
-    ensures { OnOk result (node.new ≡ near_done_row node.old from tx key) }
+    ensures { OnOk result (node.new ≡ after_near_done node.old from tx key) }
 {
     let Some(mut share) = node.take_share(tx) else {
         return Ok(());
@@ -224,7 +224,7 @@ pub fn on_near_done(node: &mut Node, from: NodeId, tx: TxId, key: Key) -> Mem<()
 /// No finish is in work any more.
 #[tactic(auto, using(act_rows::proofs::TableLaws::tx_put_put))]
 fn end_finish(node: &mut Node, tx: TxId) -> Mem<()>
-    ensures { OnOk result (node.new ≡ ends_finish node.old tx) }
+    ensures { OnOk result (node.new ≡ with_finish_ended node.old tx) }
 {
     let Some(mut share) = node.take_share(tx) else {
         return Ok(());
@@ -234,14 +234,14 @@ fn end_finish(node: &mut Node, tx: TxId) -> Mem<()>
 }
 
 fn drop_share(node: &mut Node, tx: TxId)
-    ensures { node.new ≡ share_after node.old tx Undoing }
+    ensures { node.new ≡ after_finished_share node.old tx Undoing }
 {
     let _dropped = node.state.shares.remove(&tx);
 }
 
 /// A finished share stays as Committed, or is dropped.
 fn leave_share(node: &mut Node, tx: TxId, state: ShareState) -> Mem<()>
-    ensures { OnOk result (node.new ≡ share_after node.old tx state) }
+    ensures { OnOk result (node.new ≡ after_finished_share node.old tx state) }
 {
     match state {
         ShareState::Undoing => {
@@ -254,7 +254,7 @@ fn leave_share(node: &mut Node, tx: TxId, state: ShareState) -> Mem<()>
 
 /// The end of a finish: the places are left, and each node that asked is told.
 fn finish_over(node: &mut Node, tx: TxId, state: ShareState, told: List<Out>) -> Mem<()>
-    ensures { OnOk result (node.new ≡ sent_all (share_after (releases node.old tx) tx state) told) }
+    ensures { OnOk result (node.new ≡ with_outs (after_finished_share (after_release_all node.old tx) tx state) told) }
 {
     release_all(node, tx)?;
     leave_share(node, tx, state)?;
@@ -274,7 +274,7 @@ fn set_prepared(node: &mut Node, tx: TxId) -> Mem<()>
 
 /// The share is prepared, and its starter is told.
 fn be_prepared(node: &mut Node, tx: TxId) -> Mem<()>
-    ensures { OnOk result (node.new ≡ is_prepared node.old tx) }
+    ensures { OnOk result (node.new ≡ after_share_prepared node.old tx) }
 {
     set_prepared(node, tx)?;
     node.send(tx.node, Message::Prepared { tx })
@@ -282,7 +282,7 @@ fn be_prepared(node: &mut Node, tx: TxId) -> Mem<()>
 
 /// A share that awaits no answer goes on: it is prepared, or its finish is over.
 fn share_goes_on(node: &mut Node, tx: TxId) -> Mem<()>
-    ensures { OnOk result (node.new ≡ share_on node.old tx (share_of node.old tx)) }
+    ensures { OnOk result (node.new ≡ after_advance_share node.old tx (share_of node.old tx)) }
 {
     let Some(share) = node.share(&tx) else {
         return Ok(());
@@ -304,7 +304,7 @@ fn share_goes_on(node: &mut Node, tx: TxId) -> Mem<()>
 }
 
 fn each_share_goes_on(node: &mut Node, txs: &[TxId]) -> Mem<()>
-    ensures { OnOk result (node.new ≡ shares_on node.old txs.now) }
+    ensures { OnOk result (node.new ≡ after_advance_shares node.old txs.now) }
 {
     for tx in txs {
         share_goes_on(node, *tx)?;
@@ -325,7 +325,7 @@ fn own_txs(node: &Node) -> Mem<List<TxId>>
 
 /// Each share that awaits no answer goes on, by transaction.
 pub fn shares_go_on(node: &mut Node) -> Mem<()>
-    ensures { OnOk result (node.new ≡ shares_on node.old (own_txs node.old)) }
+    ensures { OnOk result (node.new ≡ after_advance_shares node.old (own_txs node.old)) }
 {
     let txs = own_txs(node)?;
     each_share_goes_on(node, txs.as_slice())
@@ -346,7 +346,7 @@ fn waits_without(alloc: Global, waits: &[NearWait], node: NodeId) -> Mem<List<Ne
 
 /// The share no longer awaits a node that has left.
 fn stop_waiting(alloc: Global, share: &mut OwnShare, left: NodeId) -> Mem<()>
-    ensures { OnOk result (share.new ≡ share_left left share.old) }
+    ensures { OnOk result (share.new ≡ share_without_node left share.old) }
 {
     let near = waits_without(alloc, share.near.as_slice(), left)?;
     share.awaited.remove(&left);
@@ -356,7 +356,7 @@ fn stop_waiting(alloc: Global, share: &mut OwnShare, left: NodeId) -> Mem<()>
 
 #[tactic(auto, using(act_rows::proofs::TableLaws::tx_put_put))]
 fn share_saw_leave(node: &mut Node, left: NodeId, tx: TxId) -> Mem<()>
-    ensures { OnOk result (node.new ≡ on_share node.old tx (share_left left) (share_of node.old tx)) }
+    ensures { OnOk result (node.new ≡ on_share node.old tx (share_without_node left) (share_of node.old tx)) }
 {
     let Some(mut share) = node.take_share(tx) else {
         return Ok(());
@@ -366,7 +366,7 @@ fn share_saw_leave(node: &mut Node, left: NodeId, tx: TxId) -> Mem<()>
 }
 
 fn shares_saw_leave(node: &mut Node, left: NodeId, txs: &[TxId]) -> Mem<()>
-    ensures { OnOk result (node.new ≡ shares_left node.old left txs.now) }
+    ensures { OnOk result (node.new ≡ after_left_at_shares node.old left txs.now) }
 {
     for tx in txs {
         share_saw_leave(node, left, *tx)?;
@@ -376,7 +376,7 @@ fn shares_saw_leave(node: &mut Node, left: NodeId, txs: &[TxId]) -> Mem<()>
 
 /// A primary sees a node leave: it is awaited no more, and is no reader.
 pub fn primary_saw_leave(node: &mut Node, left: NodeId) -> Mem<()>
-    ensures { OnOk result (node.new ≡ primary_left node.old left) }
+    ensures { OnOk result (node.new ≡ after_left_at_primary node.old left) }
 {
     let txs = own_txs(node)?;
     shares_saw_leave(node, left, txs.as_slice())?;

@@ -1,9 +1,9 @@
 //! Prepare at a primary.
 
 ghost use Rattle.std.specs.Prelude.{◌≡◌, IfOk, OnOk, filter, not};
-ghost use Rattle.act_rows.specs.Primary.{backup_prepare_outs, backup_prepared_row, backups_for, begins_share, check, drawn, drawn_up_to, draws, first_changed, forgetting, is_old, prepare_row, wanted_keys, writes_held};
+ghost use Rattle.act_rows.specs.Primary.{after_backup_prepared, after_begin_share, after_draw, after_forget, after_prepare, backup_prepare_outs, backups_for, drawn_writes, failed_check, first_changed, is_forgettable, last_drawn, wanted_keys, writes_held_by};
 ghost use Rattle.act_rows.specs.Steps.{on_share, share_of};
-ghost use Rattle.base_words.specs.Tables.{keys_where};
+ghost use Rattle.part_model.specs.Tables.{keys_where};
 ghost use Rattle.ignite_types.specs.Names.{node_cmp, same_node};
 ghost use Rattle.ordered_set.specs.Members.{without_member};
 
@@ -21,7 +21,7 @@ use std::cmp::Ordering;
 
 /// Whether `other` is an earlier transaction of the same session whose share is Committed.
 fn is_old(tx: &TxId, other: &TxId, state: ShareState) -> bool
-    ensures { result ≡ is_old tx.now other.now state }
+    ensures { result ≡ is_forgettable tx.now other.now state }
 {
     match state {
         ShareState::Committed => {
@@ -32,7 +32,7 @@ fn is_old(tx: &TxId, other: &TxId, state: ShareState) -> bool
 }
 
 fn old_shares(alloc: Global, shares: &Table<TxId, OwnShare>, tx: &TxId) -> Mem<List<TxId>>
-    ensures { IfOk result (λ old. old ≡ keys_where (λ e. is_old tx.now e.0 e.1.state) shares.now) }
+    ensures { IfOk result (λ old. old ≡ keys_where (λ e. is_forgettable tx.now e.0 e.1.state) shares.now) }
 {
     let mut old = List::new(alloc);
     for (other, share) in shares.as_slice() {
@@ -48,7 +48,7 @@ fn old_backups(
     backups: &Table<BackupName, BackupShare>,
     tx: &TxId,
 ) -> Mem<List<BackupName>>
-    ensures { IfOk result (λ old. old ≡ keys_where (λ e. is_old tx.now e.0.tx e.1.state) backups.now) }
+    ensures { IfOk result (λ old. old ≡ keys_where (λ e. is_forgettable tx.now e.0.tx e.1.state) backups.now) }
 {
     let mut old = List::new(alloc);
     for (name, share) in backups.as_slice() {
@@ -61,7 +61,7 @@ fn old_backups(
 
 /// The earlier transactions of its session are forgotten where they are Committed.
 pub fn forget(node: &mut Node, tx: &TxId) -> Mem<()>
-    ensures { OnOk result (node.new ≡ forgetting node.old tx.now) }
+    ensures { OnOk result (node.new ≡ after_forget node.old tx.now) }
 {
     let shares = old_shares(node.alloc, &node.state.shares, tx)?;
     let backups = old_backups(node.alloc, &node.state.backups, tx)?;
@@ -101,7 +101,7 @@ fn wanted_keys(alloc: Global, wanted: &[Wanted]) -> Mem<List<Key>>
 
 /// The test of an optimistic prepare: another owner first, then a changed version.
 pub fn check(node: &Node, tx: &TxId, wanted: &[Wanted]) -> Mem<Option<Fail>>
-    ensures { IfOk result (λ fail. fail ≡ check node.now tx.now wanted.now) }
+    ensures { IfOk result (λ fail. fail ≡ failed_check node.now tx.now wanted.now) }
 {
     let keys = wanted_keys(node.alloc, wanted)?;
     match first_blocked(&node.state.queues, keys.as_slice(), tx) {
@@ -112,8 +112,8 @@ pub fn check(node: &Node, tx: &TxId, wanted: &[Wanted]) -> Mem<Option<Fail>>
 
 /// The written entries with the versions that are drawn for them, and the last number drawn.
 fn draw(node: &Node, top: TopVer, writes: &[(Key, Option<Value>)]) -> Mem<(List<Stored>, u64)>
-    ensures entries { IfOk result (λ r. r.0 ≡ drawn top node.now.me node.now.order writes.now) }
-    ensures last { IfOk result (λ r. r.1 ≡ drawn_up_to node.now.order writes.now) }
+    ensures entries { IfOk result (λ r. r.0 ≡ drawn_writes top node.now.me node.now.order writes.now) }
+    ensures last { IfOk result (λ r. r.1 ≡ last_drawn node.now.order writes.now) }
 {
     let mut entries = List::new(node.alloc);
     let mut order = node.state.order;
@@ -157,7 +157,7 @@ pub(crate) fn backups_for(node: &Node, shares: &[Share]) -> Mem<List<NodeId>>
 
 /// The writes of the partitions that a node holds.
 fn writes_held(node: &Node, holder: NodeId, writes: &[Stored]) -> Mem<List<Stored>>
-    ensures { IfOk result (λ held. held ≡ writes_held node.now holder writes.now) }
+    ensures { IfOk result (λ held. held ≡ writes_held_by node.now holder writes.now) }
 {
     let mut held = List::new(node.alloc);
     for write in writes {
@@ -204,7 +204,7 @@ fn begin_share(
     writes: List<Stored>,
     backups: List<NodeId>,
 ) -> Mem<()>
-    ensures { OnOk result (node.new ≡ begins_share node.old tx top shares writes backups) }
+    ensures { OnOk result (node.new ≡ after_begin_share node.old tx top shares writes backups) }
 {
     let outs = backup_prepare_outs(
         node,
@@ -235,7 +235,7 @@ fn draw_share(
     shares: List<Share>,
     writes: &[(Key, Option<Value>)],
 ) -> Mem<()>
-    ensures { OnOk result (node.new ≡ draws node.old tx top shares writes.now) }
+    ensures { OnOk result (node.new ≡ after_draw node.old tx top shares writes.now) }
 {
     let (entries, order) = draw(node, top, writes)?;
     let backups = backups_for(node, shares.as_slice())?;
@@ -254,7 +254,7 @@ pub fn on_prepare(
     wanted: &[Wanted],
     writes: &[(Key, Option<Value>)],
 ) -> Mem<()>
-    ensures { OnOk result (node.new ≡ prepare_row node.old from tx top mode shares wanted.now writes.now) }
+    ensures { OnOk result (node.new ≡ after_prepare node.old from tx top mode shares wanted.now writes.now) }
 {
     forget(node, &tx)?;
     match mode {
@@ -283,7 +283,7 @@ pub(crate) fn stop_awaiting(node: &mut Node, tx: TxId, from: NodeId) -> Mem<()>
 
 /// BackupPrepared counts while the share is Preparing.
 pub fn on_backup_prepared(node: &mut Node, from: NodeId, tx: TxId) -> Mem<()>
-    ensures { OnOk result (node.new ≡ backup_prepared_row node.old from tx) }
+    ensures { OnOk result (node.new ≡ after_backup_prepared node.old from tx) }
 {
     let Some(share) = node.share(&tx) else {
         return Ok(());

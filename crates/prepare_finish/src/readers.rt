@@ -1,8 +1,8 @@
 //! Readers: for each key the nodes to which updates of it go.
 
 ghost use Rattle.std.specs.Prelude.{◌≡◌, OnOk, IfOk, MatchOption};
-ghost use Rattle.base_words.specs.NearEntries.{reader_gone, readers_without, with_reader, without_reader};
-ghost use Rattle.base_words.specs.Tables.{keys_in};
+ghost use Rattle.part_model.specs.NearEntries.{with_reader, without_reader, without_reader_of, without_reader_of_each};
+ghost use Rattle.part_model.specs.Tables.{keys_in};
 ghost use Rattle.prepare_finish.specs.Taking.{TakesNoReaders, TakesReaders};
 
 use ignite_types::{Key, List, Mem, NodeId};
@@ -44,7 +44,7 @@ pub(crate) fn add_reader(alloc: Global, readers: &mut Readers, key: &Key, node: 
 /// The node is no reader of the key.
 #[tactic(auto, using(act_rows::proofs::TableLaws::key_put_put))]
 fn drop_reader(alloc: Global, readers: &mut Readers, key: &Key, node: NodeId) -> Mem<()>
-    ensures { OnOk result (readers.new ≡ reader_gone readers.old key.now node) }
+    ensures { OnOk result (readers.new ≡ without_reader_of readers.old key.now node) }
 {
     match take_readers(alloc, readers, key) {
         Some(mut nodes) => {
@@ -57,7 +57,7 @@ fn drop_reader(alloc: Global, readers: &mut Readers, key: &Key, node: NodeId) ->
 
 /// The node is no reader of these keys.
 fn drop_reader_of(alloc: Global, readers: &mut Readers, keys: &[Key], node: NodeId) -> Mem<()>
-    ensures { OnOk result (readers.new ≡ readers_without readers.old keys.now node) }
+    ensures { OnOk result (readers.new ≡ without_reader_of_each readers.old keys.now node) }
 {
     for key in keys {
         drop_reader(alloc, readers, key, node)?;

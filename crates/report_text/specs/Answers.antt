@@ -1,6 +1,6 @@
 -- The texts of names, versions and answers.
-use Rattle.base_words.specs.declared.script.Told.{Told}
-use Rattle.base_words.specs.declared.script.Told.TheVariants as told
+use Rattle.part_model.specs.declared.script.Told.{Told}
+use Rattle.part_model.specs.declared.script.Told.TheVariants as told
 use Rattle.std.specs.Prelude.{ℕ, ◌-◌, List, [], ◌∷◌, ◌++◌, codes, decimal, Option, Some, None, slice_get}
 use Rattle.ignite_types.specs.declared.answer.Answer.{Answer}
 use Rattle.ignite_types.specs.declared.answer.Answer.TheVariants as answer
@@ -71,6 +71,6 @@ answer_text s answer.Skipped = codes "skipped"
 answer_text s (answer.NoCache cache) = codes "no cache " ++ cache_name (slice_get s.caches cache)
 
 -- what an item of a script is answered
-abbrev pub told_text : Scenario → Told → List ℕ
-told_text s (told.Plain answer) = answer_text s answer
-told_text s told.Empty = codes "empty"
+abbrev pub item_told_text : Scenario → Told → List ℕ
+item_told_text s (told.Plain answer) = answer_text s answer
+item_told_text s told.Empty = codes "empty"

@@ -1,7 +1,7 @@
 -- What the report takes from a journal's records.
 use Rattle.std.specs.Ordering.{match_ordering}
 use Rattle.std.specs.Prelude.{List, [], if◌then◌else◌, length, ◌++◌, ◌==◌, ◌∷◌}
-use Rattle.base_words.specs.Directory.{first_top}
+use Rattle.part_model.specs.Directory.{first_top}
 use Rattle.ignite_types.specs.Names.{top_cmp}
 use Rattle.ignite_types.specs.declared.journal.Group.{Group}
 use Rattle.ignite_types.specs.declared.journal.Rec.{Rec}
@@ -12,8 +12,8 @@ use Rattle.report_text.specs.declared.digest.Digest.{Digest}
 use Rattle.ignite_types.specs.declared.journal.Rec.TheVariants as note
 
 -- the later of two versions
-abbrev pub later : TopVer → TopVer → TopVer
-later a b = match_ordering (top_cmp a b) b a a
+abbrev pub later_version : TopVer → TopVer → TopVer
+later_version a b = match_ordering (top_cmp a b) b a a
 
 -- a search that found no circle has no edges
 abbrev pub with_search : Digest → TxId → List Edge → Digest
@@ -27,7 +27,7 @@ with_rec d (note.Answer session answer) =
     record d { answers = d.answers ++ record { session = session; answer = answer } ∷ [] }
 with_rec d (note.Planned place refused) = record d { steps = d.steps ++ (place, refused) ∷ [] }
 with_rec d (note.Searched tx edges) = with_search d tx edges
-with_rec d (note.Opened top) = record d { top = later d.top top }
+with_rec d (note.Opened top) = record d { top = later_version d.top top }
 with_rec d rec = d
 
 abbrev pub with_recs : Digest → List Rec → Digest

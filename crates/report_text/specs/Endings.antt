@@ -30,10 +30,10 @@ waits_text s (standing.Held from to) = held_text from to
 waits_text s _ = codes "waits"
 
 -- it has not ended, and was not lost
-abbrev pub is_open : Standing → Bool
-is_open standing.Ended = false
-is_open (standing.Lost node) = false
-is_open _ = true
+abbrev pub has_not_ended : Standing → Bool
+has_not_ended standing.Ended = false
+has_not_ended (standing.Lost node) = false
+has_not_ended _ = true
 
 -- `stalled NAME: `, and what it waits for
 abbrev pub open_line : Scenario → Session → Standing → List ℕ
@@ -42,7 +42,7 @@ open_line s session stands =
 
 abbrev pub stalled_line : Scenario → Session → Option Standing → List ℕ
 stalled_line s session None = []
-stalled_line s session (Some stands) = if is_open stands then open_line s session stands else []
+stalled_line s session (Some stands) = if has_not_ended stands then open_line s session stands else []
 
 -- the lines of the sessions, the first of which stands at this place
 abbrev pub stalled_lines : Scenario → List Standing → ℕ → List Session → List ℕ

@@ -1,8 +1,8 @@
 -- The history: the commits in the order of their decisions; and the map after it.
 use Rattle.std.specs.List.{list_any}
 use Rattle.std.specs.Prelude.{Bool, List, None, Option, Some, [], codes, decimal, filter, if◌then◌else◌, length, nat_eq, ℕ, ◌++◌, ◌+◌, ◌∷◌}
-use Rattle.base_words.specs.Directory.{first_top, running_after, running_from, version_after}
-use Rattle.base_words.specs.Orders.{is_lower_top}
+use Rattle.part_model.specs.Directory.{first_top, running_after, running_from, version_after}
+use Rattle.part_model.specs.Orders.{is_lower_top}
 use Rattle.ignite_types.specs.declared.journal.TopoEvent.{TopoEvent}
 use Rattle.ignite_types.specs.declared.names.TopVer.{TopVer}
 use Rattle.ignite_types.specs.declared.scenario.Scenario.{Scenario}
@@ -10,7 +10,7 @@ use Rattle.ignite_types.specs.declared.text.Key.{Key}
 use Rattle.report_text.specs.Answers.{top_text, tx_text}
 use Rattle.report_text.specs.Plans.{count_line}
 use Rattle.scen_text.specs.Items.{key_text}
-use Rattle.tx_model.specs.History.{Map, map_after}
+use Rattle.tx_model.specs.History.{Map, map_after_commits}
 use Rattle.tx_model.specs.declared.history.CommitEntry.{CommitEntry}
 
 -- a value, or `~` for an absent or a removed one
@@ -87,4 +87,4 @@ map_part s m = count_line (codes "map") (length m) ++ map_lines s m
 
 -- the map after the commits, of the keys of these caches alone
 abbrev pub map_of_commits : Scenario → List ℕ → List CommitEntry → List ℕ
-map_of_commits s running commits = map_part s (shown_entries running (map_after [] commits))
+map_of_commits s running commits = map_part s (shown_entries running (map_after_commits [] commits))

@@ -27,20 +27,20 @@ part_among (cache ∷ caches) part =
 abbrev pub part_text : Scenario → ℕ → List ℕ
 part_text s part = if s.format == 2 then part_among s.caches part else decimal part
 
-abbrev pub refusal_text : Scenario → Option NoLoss → List ℕ
-refusal_text s None = codes "ok"
-refusal_text s (Some refusal.NotIn) = codes "refused not in"
-refusal_text s (Some (refusal.LeavesPartition part)) = codes "refused partition " ++ part_text s part
+abbrev pub loss_refusal_text : Scenario → Option NoLoss → List ℕ
+loss_refusal_text s None = codes "ok"
+loss_refusal_text s (Some refusal.NotIn) = codes "refused not in"
+loss_refusal_text s (Some (refusal.LeavesPartition part)) = codes "refused partition " ++ part_text s part
 
 -- `M STEP`
-abbrev pub planned_text : Scenario → PlanStep → List ℕ
-planned_text s planned = decimal planned.moment ++ (32 ∷ step_text s planned.step)
+abbrev pub planned_line : Scenario → PlanStep → List ℕ
+planned_line s planned = decimal planned.moment ++ (32 ∷ step_text s planned.step)
 
 -- `M STEP: ok`, or why the step was refused
 abbrev pub step_line : Scenario → Option PlanStep → Option NoLoss → List ℕ
 step_line s None refused = []
 step_line s (Some planned) refused =
-    planned_text s planned ++ ((codes ": " ++ refusal_text s refused) ++ 10 ∷ [])
+    planned_line s planned ++ ((codes ": " ++ loss_refusal_text s refused) ++ 10 ∷ [])
 
 abbrev pub step_lines : Scenario → List (ℕ × Option NoLoss) → List ℕ
 step_lines s [] = []

@@ -2,9 +2,9 @@
 
 ghost use Rattle.std.specs.Prelude.{◌≡◌, ◌-◌, ◌∷◌, ◌++◌, decimal, slice_get, OnOk};
 ghost use Rattle.scen_text.specs.Items.{key_text};
-ghost use Rattle.report_text.specs.Answers.{session_name, cache_name, nodes_text, tx_text, top_text, version_text, fail_text, fault_text, answer_text, told_text};
+ghost use Rattle.report_text.specs.Answers.{answer_text, cache_name, fail_text, fault_text, item_told_text, nodes_text, session_name, top_text, tx_text, version_text};
 
-use base_words::Told;
+use part_model::Told;
 use ignite_types::{Answer, CacheVersion, Fail, Fault, Key, Mem, NodeId, Scenario, TopVer, TxId};
 use scen_text::{TextOut, write_key};
 
@@ -168,7 +168,7 @@ pub fn write_answer(out: &mut TextOut, scenario: &Scenario, answer: &Answer) -> 
 
 /// Writes what an item of a script is answered.
 pub fn write_told(out: &mut TextOut, scenario: &Scenario, told: &Told) -> Mem<()>
-    ensures { OnOk result (out.new ≡ out.old ++ told_text scenario.now told.now) }
+    ensures { OnOk result (out.new ≡ out.old ++ item_told_text scenario.now told.now) }
 {
     match told {
         Told::Plain(answer) => write_answer(out, scenario, answer),

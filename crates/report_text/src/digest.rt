@@ -35,7 +35,7 @@ pub struct Digest {
 
 /// The later of two versions.
 fn later(a: TopVer, b: TopVer) -> TopVer
-    ensures { result ≡ digests.later a b }
+    ensures { result ≡ digests.later_version a b }
 {
     match a.cmp(&b) {
         Ordering::Less => b,

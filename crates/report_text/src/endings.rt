@@ -63,7 +63,7 @@ fn write_open(
 
 /// Whether the session has not ended, and was not lost.
 fn is_open(stands: &Standing) -> bool
-    ensures { result ≡ endings.is_open stands.now }
+    ensures { result ≡ endings.has_not_ended stands.now }
 {
     match stands {
         Standing::Ended => false,

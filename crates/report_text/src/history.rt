@@ -1,7 +1,7 @@
 //! The history and the map after it.
 
 ghost use Rattle.std.specs.Prelude.{◌≡◌, ◌+◌, [], ◌∷◌, ◌++◌, decimal, IfOk, OnOk};
-ghost use Rattle.tx_model.specs.History.{wrote, written, map_after};
+ghost use Rattle.tx_model.specs.History.{map_after_commits, map_with_write, map_with_writes};
 ghost use Rattle.report_text.specs.Histories.{caches_of, change_text, changes_text, commit_name, footprint_text, history_line, history_lines, history_part, is_shown, map_line, map_lines, map_of_commits, map_part, more_changes, shown_entries, value_text};
 
 use crate::answers::{write_top, write_tx};
@@ -116,7 +116,7 @@ pub fn write_history(out: &mut TextOut, scenario: &Scenario, commits: &[CommitEn
 
 /// Puts a value at the key, or takes the key out.
 fn write_one(map: &mut Table<Key, Value>, key: &Key, value: &Option<Value>) -> Mem<()>
-    ensures { OnOk result (map.new ≡ wrote map.old key.now value.now) }
+    ensures { OnOk result (map.new ≡ map_with_write map.old key.now value.now) }
 {
     match value {
         Some(value) => map.set(*key, *value),
@@ -129,7 +129,7 @@ fn write_one(map: &mut Table<Key, Value>, key: &Key, value: &Option<Value>) -> M
 
 /// Does the writes of a commit.
 fn write_all(map: &mut Table<Key, Value>, writes: &[(Key, Option<Value>)]) -> Mem<()>
-    ensures { OnOk result (map.new ≡ written map.old writes.now) }
+    ensures { OnOk result (map.new ≡ map_with_writes map.old writes.now) }
 {
     for write in writes {
         write_one(map, &write.0, &write.1)?;
@@ -139,7 +139,7 @@ fn write_all(map: &mut Table<Key, Value>, writes: &[(Key, Option<Value>)]) -> Me
 
 /// The map that the commits leave, of all caches.
 pub fn map_after(alloc: Global, commits: &[CommitEntry]) -> Mem<Table<Key, Value>>
-    ensures { IfOk result (λ map. map ≡ map_after [] commits.now) }
+    ensures { IfOk result (λ map. map ≡ map_after_commits [] commits.now) }
 {
     let mut map = Table::new(alloc);
     for entry in commits {
@@ -225,7 +225,7 @@ pub fn shown_map(
     top: TopVer,
     commits: &[CommitEntry],
 ) -> Mem<List<(Key, Value)>>
-    ensures { IfOk result (λ shown. shown ≡ shown_entries (caches_of scenario.now events.now top) (map_after [] commits.now)) }
+    ensures { IfOk result (λ shown. shown ≡ shown_entries (caches_of scenario.now events.now top) (map_after_commits [] commits.now)) }
 {
     let running = caches_of(alloc, scenario, events, top)?;
     let map = map_after(alloc, commits)?;

@@ -48,7 +48,7 @@ fn write_part(out: &mut TextOut, scenario: &Scenario, part: u32) -> Mem<()>
 
 /// Writes what came of a plan step.
 fn write_refusal(out: &mut TextOut, scenario: &Scenario, refused: &Option<NoLoss>) -> Mem<()>
-    ensures { OnOk result (out.new ≡ out.old ++ plans.refusal_text scenario.now refused.now) }
+    ensures { OnOk result (out.new ≡ out.old ++ plans.loss_refusal_text scenario.now refused.now) }
 {
     match refused {
         None => out.text("ok"),
@@ -62,7 +62,7 @@ fn write_refusal(out: &mut TextOut, scenario: &Scenario, refused: &Option<NoLoss
 
 /// Writes a plan step with its moment.
 fn write_planned(out: &mut TextOut, scenario: &Scenario, planned: &PlanStep) -> Mem<()>
-    ensures { OnOk result (out.new ≡ out.old ++ plans.planned_text scenario.now planned.now) }
+    ensures { OnOk result (out.new ≡ out.old ++ plans.planned_line scenario.now planned.now) }
 {
     out.number(planned.moment)?;
     out.byte(b' ')?;

@@ -2,12 +2,12 @@
 
 ghost use Rattle.std.specs.Prelude.{◌≡◌, ◌+◌, [], ◌++◌, slice_get, IfOk, OnOk};
 ghost use Rattle.std.specs.Option.{option_copied};
-ghost use Rattle.base_words.specs.Script.{advance, no_progress};
+ghost use Rattle.part_model.specs.Script.{advance, no_progress};
 ghost use Rattle.report_text.specs.Sessions as sessions;
 
 use crate::answers::{write_node, write_told};
 use crate::digest::Given;
-use base_words::{Phase, Progress, Told};
+use part_model::{Phase, Progress, Told};
 use ignite_types::{Answer, Item, List, Mem, Scenario, Session};
 use ordered_table::Table;
 use scen_text::{TextOut, write_item};
@@ -17,7 +17,7 @@ use tx_model::{Outlook, Standing};
 
 /// The answers to the session of this number.
 pub fn answers_to(alloc: Global, number: usize, all: &[Given]) -> Mem<List<Answer>>
-    ensures { IfOk result (λ answers. answers ≡ sessions.answers_to number all.now) }
+    ensures { IfOk result (λ answers. answers ≡ sessions.answers_given_to number all.now) }
 {
     let mut answers = List::new(alloc);
     for given in all {
@@ -99,7 +99,7 @@ fn write_told_lines(
     session: &Session,
     all: &[Told],
 ) -> Mem<()>
-    ensures { OnOk result (out.new ≡ out.old ++ sessions.told_lines scenario.now session.now.commands 0 all.now) }
+    ensures { OnOk result (out.new ≡ out.old ++ sessions.session_told_lines scenario.now session.now.commands 0 all.now) }
 {
     for (place, told) in all.iter().enumerate() {
         let item = session.commands.get(place);
@@ -110,7 +110,7 @@ fn write_told_lines(
 
 /// Writes a session's name and node, as a line.
 fn write_session_line(out: &mut TextOut, session: &Session) -> Mem<()>
-    ensures { OnOk result (out.new ≡ out.old ++ sessions.session_line session.now) }
+    ensures { OnOk result (out.new ≡ out.old ++ sessions.session_head_line session.now) }
 {
     out.text("session ")?;
     out.bytes(session.name.as_slice())?;

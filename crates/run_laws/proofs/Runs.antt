@@ -7,12 +7,12 @@ use Rattle.ignite_types.specs.declared.scenario.Scenario.{Scenario}
 use Rattle.run_laws.specs.Staying.{ClocksAgree, InTime, Runs}
 use Rattle.run_laws.proofs.Staying.{Keeps, event_keeps, itself, twice}
 use Rattle.tx_model.specs.Opening.{ids_of, opening, opening_map_of, opening_parts}
-use Rattle.tx_model.specs.Runs.{after}
+use Rattle.tx_model.specs.Runs.{world_after}
 use Rattle.tx_model.specs.World.{World, outcome}
 
-keeps : (w : World) (gs : List Group) → Keeps w (after w gs)
+keeps : (w : World) (gs : List Group) → Keeps w (world_after w gs)
 keeps w [] = itself w
-keeps w (g ∷ gs) = let w2 = (outcome w g.event).world in twice w w2 (after w2 gs) (event_keeps w g.event) (keeps w2 gs)
+keeps w (g ∷ gs) = let w2 = (outcome w g.event).world in twice w w2 (world_after w2 gs) (event_keeps w g.event) (keeps w2 gs)
 
 pub runs : (w : World) (gs : List Group) → Runs w gs
 runs w gs = let kept = keeps w gs in record { stays = kept.stays; in_time = kept.in_time }

@@ -6,7 +6,7 @@ use Rattle.std.specs.List.{slice_split, position_or_len, before_first, after_fir
 use Rattle.std.specs.Str.Lines.{lines, lines_of_parts, strip_carriage_return}
 use Rattle.std.proofs.lemmas.Bool.{cond-true, cond-false, ne_eqb, ltb-true, ltb-false}
 use Rattle.std.proofs.lemmas.List.Splits.{slice_split_first, length-slice_split}
-use Rattle.scen_text.specs.Words.{words, has_bytes, begins_with_space}
+use Rattle.scen_text.specs.Words.{begins_with_space, has_bytes, words}
 
 abbrev pub is_feed : ℕ → Bool
 is_feed byte = byte == 10

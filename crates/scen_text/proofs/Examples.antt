@@ -19,7 +19,7 @@ use Rattle.scen_text.specs.declared.cause.What.TheVariants as what
 use Rattle.scen_text.specs.Causes.{refusal_text}
 use Rattle.scen_text.specs.Printing.{scenario_text}
 use Rattle.scen_text.specs.Reading.{scenario_of}
-use Rattle.scen_text.specs.Words.{words, number, integer}
+use Rattle.scen_text.specs.Words.{integer, number_of_word, words}
 
 two_lines : lines (codes "a\r\n\nb\r") ≡ codes "a" ∷ [] ∷ codes "b\r" ∷ []
 two_lines = refl
@@ -27,10 +27,10 @@ two_lines = refl
 three_words : words (codes "  put a   1 ") ≡ codes "put" ∷ codes "a" ∷ codes "1" ∷ []
 three_words = refl
 
-leading_zeros : number (codes "007") ≡ Ok 7
+leading_zeros : number_of_word (codes "007") ≡ Ok 7
 leading_zeros = refl
 
-eight_digits : number (codes "00000001") ≡ Err Syntax
+eight_digits : number_of_word (codes "00000001") ≡ Err Syntax
 eight_digits = refl
 
 negative_zero : integer (codes "-0") ≡ Err Syntax

@@ -13,9 +13,9 @@ use Rattle.scen_text.specs.declared.line.Line.{Line}
 use Rattle.scen_text.specs.declared.line.Line.TheVariants as line
 use Rattle.scen_text.specs.declared.line.Setting.{Setting}
 use Rattle.scen_text.specs.Causes.{◌>>=◌}
-use Rattle.scen_text.specs.Drafts.{with_head, with_setting, total_with, with_cache, with_start, with_object, stepped, line_taken}
+use Rattle.scen_text.specs.Drafts.{draft_after_line, line_taken, total_with, with_cache, with_head, with_object, with_setting, with_start}
 use Rattle.scen_text.specs.Known.{has_object}
-use Rattle.scen_text.specs.Meaning.{line_of}
+use Rattle.scen_text.specs.Meaning.{line_meant}
 use Rattle.scen_text.proofs.Holds.{Holds, then_holds, any_then, rule_then}
 
 abbrev pub Few : Draft → Type 0
@@ -53,7 +53,7 @@ few_object : (d : Draft) (key : Key) (kind : Option Kind) → Few d → Few (wit
 few_object d key None h = h
 few_object d key (Some kind) h = cond_both (has_object d.objects key) _ _ Few (λ e. h) (λ e. h)
 
-few_step : (d : Draft) (l : Line) → Few d → Holds Few (stepped d l)
+few_step : (d : Draft) (l : Line) → Few d → Holds Few (draft_after_line d l)
 few_step d line.Blank h = h
 few_step d (line.Head format) h = few_head d format
 few_step d (line.Setting setting n) h = few_setting d setting n
@@ -70,7 +70,7 @@ few_step d (line.Keyed verb key) h =
 few_step d line.End h = search (rule_then, h) depth 16
 
 few_line : (d : Draft) (bytes : List ℕ) → Few d → Holds Few (line_taken d bytes)
-few_line d bytes h = any_then Few (line_of d.format bytes) _ (λ l. few_step d l h)
+few_line d bytes h = any_then Few (line_meant d.format bytes) _ (λ l. few_step d l h)
 
 pub few_taken : (d : Draft) (bytes : List ℕ) (e : Draft) → line_taken d bytes ≡ Ok e → Few d → Few e
 few_taken d bytes e is h =

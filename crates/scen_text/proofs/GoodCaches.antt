@@ -4,7 +4,7 @@ use Rattle.std.specs.Prelude.{◌&&◌, ◌||◌, not, ◌==◌, nat_le, nat_lt,
 use Rattle.std.specs.List.{list_all}
 use Rattle.std.proofs.lemmas.Bool.{cond_both, and_parts, not-true, ltb-true, leb-true}
 use Rattle.std.proofs.lemmas.List.Sums.{sum_by-append}
-use Rattle.ignite_types.specs.Good.{is_within, is_name, good_cache, is_started, same_cache_name}
+use Rattle.ignite_types.specs.Good.{good_cache, is_name, is_started, is_within, same_cache_name}
 use Rattle.ignite_types.specs.declared.names.NodeId.{NodeId}
 use Rattle.ignite_types.specs.declared.scenario.Cache.{Cache}
 use Rattle.scen_text.specs.declared.cause.Cause.TheVariants.{Limit}
@@ -21,7 +21,7 @@ use Rattle.scen_text.specs.Causes.{◌>>=◌, rule, fit}
 use Rattle.scen_text.specs.Drafts.{total_with}
 use Rattle.scen_text.specs.Known.{has_cache}
 use Rattle.scen_text.specs.Limits.{set, setting_fits, default_cache, cache_fits, cache_of}
-use Rattle.scen_text.specs.Places.{rank, stands, stands_once, is_start}
+use Rattle.scen_text.specs.Places.{is_start_place, may_follow, rank, stands_once}
 use Rattle.scen_text.proofs.GoodKept.{Fit, NoCaches, SecondCaches, is_kind, CachesOf, PlanOf, SessionsOf, started_at}
 use Rattle.scen_text.proofs.GoodLines.{GoodName}
 use Rattle.scen_text.proofs.GoodLists.{pushed_all, pushed_distinct, pushed_order, may_precede}
@@ -45,13 +45,13 @@ cache_of-good w first is_data words g = named words.name g
 
 -- the places of lines
 
-pub stands_below : (last next : Place) → stands last next ≡ true → rank last ≤ rank next
+pub stands_below : (last next : Place) → may_follow last next ≡ true → rank last ≤ rank next
 stands_below last next h = leb-true _ _ (and_parts (nat_le 1 (rank last)) (nat_le (rank last) (rank next)) h).1
 
 pub once_below : (last next : Place) → stands_once last next ≡ true → rank last < rank next
 once_below last next h = ltb-true _ _ (and_parts (nat_le 1 (rank last)) (nat_lt (rank last) (rank next)) h).1
 
-pub start_rank : (p : Place) → is_start p ≡ true → rank p ≡ 0
+pub start_rank : (p : Place) → is_start_place p ≡ true → rank p ≡ 0
 start_rank place.Start h = refl
 start_rank _ h = cc
 

@@ -7,7 +7,7 @@ use Rattle.std.proofs.lemmas.Bool.{cond_both, and_parts, and_from, not-true, ltb
 use Rattle.std.proofs.lemmas.List.Elements.{filter_map-append}
 use Rattle.std.proofs.lemmas.Grind.{flat_map-append}
 use Rattle.ignite_types.specs.Texts.{is_key_byte}
-use Rattle.ignite_types.specs.Good.{is_within, is_text, is_name, has_cache_line, good_cache, good_key, good_object, good_item, is_plain, object_of, joining, starting, same_node, same_session_name, has_member}
+use Rattle.ignite_types.specs.Good.{good_cache, good_item, good_key, good_object, has_cache_line, has_member, is_name, is_plain, is_text, is_within, joining, object_of, same_member_node, same_session_name, starting}
 use Rattle.ignite_types.specs.declared.names.NodeId.{NodeId}
 use Rattle.ignite_types.specs.declared.text.Key.{Key}
 use Rattle.ignite_types.specs.declared.scenario.Cache.{Cache}
@@ -33,11 +33,11 @@ use Rattle.scen_text.specs.declared.line.Verb.{Verb}
 use Rattle.scen_text.specs.declared.line.Verb.TheVariants as verb
 use Rattle.scen_text.specs.declared.place.Place.{Place}
 use Rattle.scen_text.specs.declared.place.Place.TheVariants as place
-use Rattle.scen_text.specs.Drafts.{no_session, with_head, with_setting, total_with, with_cache, with_member, nodes_named, with_join, with_links, with_start, with_stop, with_session, with_object, with_item, has_room, with_bare, verb_stands, with_keyed, with_end, stepped, line_taken}
-use Rattle.scen_text.specs.Known.{cache_place, has_cache, has_object, has_session, is_named, is_other, is_stopped, names_data_here, names_plain_here, names_first, place_named, place_of_key, known, in_cache, rises, member_what}
+use Rattle.scen_text.specs.Drafts.{draft_after_line, draft_with_member, has_room, line_taken, no_session, nodes_named, total_with, verb_stands, with_bare, with_cache, with_end, with_head, with_item, with_join, with_keyed, with_links, with_object, with_session, with_setting, with_start, with_stop}
+use Rattle.scen_text.specs.Known.{cache_place, has_cache, has_object, has_session, is_named, is_other, is_stopped, key_in_cache, known_cache, member_what, names_data_here, names_first, names_plain_here, place_named, place_of_key, rises}
 use Rattle.scen_text.specs.Limits.{setting_fits, setting_what, default_cache, cache_of, nodes_fit, bare_fits, bare_what, kind_of, keyed}
-use Rattle.scen_text.specs.Meaning.{line_of}
-use Rattle.scen_text.specs.Places.{rank, stands, stands_once, in_script, is_outside, is_start, place_after, place_of}
+use Rattle.scen_text.specs.Meaning.{line_meant}
+use Rattle.scen_text.specs.Places.{in_script, is_outside, is_start_place, may_follow, place_after, place_of_setting, rank, stands_once}
 use Rattle.scen_text.proofs.GoodCaches.{cache_of-good, stands_below, once_below, start_rank, no_plan, no_sessions, caches-setting, caches-head, Room, room, caches-pushed}
 use Rattle.scen_text.proofs.GoodKept.{CachesOf, Placed, NodesOf, PlanOf, SessionsOf, ScriptOf, ObjectsOf, Kept, is_kind, stop_fits, steps_of, good_script, is_block, objects_in}
 use Rattle.scen_text.proofs.GoodLines.{If, GoodName, GoodText, GoodObject, GoodValue, GoodVerb, GoodLine, is_bare, is_link, line_of-good}
@@ -91,7 +91,7 @@ unsaid : (named : List NodeId) (caches : List Cache) (sessions : List Session) �
 unsaid named caches sessions e = let P : List Session → Type 0 = SessionsOf named caches in subst P (sym e) (no_sessions named caches)
 
 head-kept : (d : Draft) (format : ℕ) → Kept d → (format ≡ 1) ⊎ (format ≡ 2) → Holds Kept (with_head d format)
-head-kept d format h g = rule_then Kept (is_start d.place) Syntax _ (λ s.
+head-kept d format h g = rule_then Kept (is_start_place d.place) Syntax _ (λ s.
     let zero = start_rank d.place s in
     let plan : d.plan ≡ [] = h.placed.no_plan (below _ _ (omega arith)) in
     let sessions : d.sessions ≡ [] = h.placed.no_session (below _ _ (omega arith)) in
@@ -107,15 +107,15 @@ head-kept d format h g = rule_then Kept (is_start d.place) Syntax _ (λ s.
       objects = h.objects;
     })
 
-setting_place : (s : Setting) → (rank (place_of s) ≤ 4) × (in_script (place_of s) ≡ false) × (is_start (place_of s) ≡ false)
+setting_place : (s : Setting) → (rank (place_of_setting s) ≤ 4) × (in_script (place_of_setting s) ≡ false) × (is_start_place (place_of_setting s) ≡ false)
 setting_place setting.Parts = (lit≤ tt, refl, refl)
 setting_place setting.Backups = (lit≤ tt, refl, refl)
 setting_place setting.Near = (lit≤ tt, refl, refl)
 
 setting-kept : (d : Draft) (s : Setting) (n : ℕ) → Kept d → (d.format == 2) ≡ false → Holds Kept (with_setting d s n)
-setting-kept d s n h g = rule_then Kept (stands_once d.place (place_of s)) Syntax _ (λ st. rule_then Kept (setting_fits s n) (Limit (setting_what s)) _ (λ fits.
+setting-kept d s n h g = rule_then Kept (stands_once d.place (place_of_setting s)) Syntax _ (λ st. rule_then Kept (setting_fits s n) (Limit (setting_what s)) _ (λ fits.
     let at = setting_place s in
-    let low : rank d.place < rank (place_of s) = once_below d.place (place_of s) st in
+    let low : rank d.place < rank (place_of_setting s) = once_below d.place (place_of_setting s) st in
     let most = at.0 in
     let plan : d.plan ≡ [] = h.placed.no_plan (below _ _ (omega arith)) in
     let sessions : d.sessions ≡ [] = h.placed.no_session (below _ _ (omega arith)) in
@@ -126,7 +126,7 @@ setting-kept d s n h g = rule_then Kept (stands_once d.place (place_of s)) Synta
       nodes = h.nodes;
       plan = unplanned d.named _ d.plan plan refl;
       sessions = unsaid d.named _ d.sessions sessions;
-      script = outside (place_of s) d.named _ d.sessions d.session at.1 (no_commands d h (omega arith));
+      script = outside (place_of_setting s) d.named _ d.sessions d.session at.1 (no_commands d h (omega arith));
       objects = h.objects;
     }))
 
@@ -161,7 +161,7 @@ precede_started c (x ∷ xs) d f h =
     either false false e = refl
 
 line_kept : (d : Draft) (words : CacheWords) → Kept d → (d.format == 2) ≡ true → GoodName words.name → Holds Kept (with_cache d false words)
-line_kept d words h f g = rule_then Kept (stands d.place place.Caches) Syntax _ (λ st.
+line_kept d words h f g = rule_then Kept (may_follow d.place place.Caches) Syntax _ (λ st.
     then_holds Kept (λ c. (good_cache c ≡ true) × (c.first ≡ true) × (c.«data» ≡ false)) (cache_of what.Cache true false words) _ (cache_of-good what.Cache true false words g) (λ c k.
     then_holds Kept (Room d c.parts) (total_with d c.parts) _ (room d c.parts) (λ total r. rule_then Kept (not (has_cache d.caches c.name)) _ _ (λ new.
     let low : rank d.place ≤ 5 = stands_below d.place place.Caches st in
@@ -181,7 +181,7 @@ line_kept d words h f g = rule_then Kept (stands d.place place.Caches) Syntax _ 
     }))))
 
 data_kept : (d : Draft) (words : CacheWords) → Kept d → (d.format == 2) ≡ true → GoodName words.name → Holds Kept (with_cache d true words)
-data_kept d words h f g = rule_then Kept (stands d.place place.Data) Syntax _ (λ st.
+data_kept d words h f g = rule_then Kept (may_follow d.place place.Data) Syntax _ (λ st.
     then_holds Kept (λ c. (good_cache c ≡ true) × (c.first ≡ true) × (c.«data» ≡ true)) (cache_of what.Data true true words) _ (cache_of-good what.Data true true words g) (λ c k.
     then_holds Kept (Room d c.parts) (total_with d c.parts) _ (room d c.parts) (λ total r. rule_then Kept (not (has_cache d.caches c.name)) _ _ (λ new.
     let low : rank d.place ≤ 6 = stands_below d.place place.Data st in
@@ -206,8 +206,8 @@ cache-kept d true words h f g = data_kept d words h f g
 
 -- nodes
 
-member-kept : (d : Draft) (m : Member) → Kept d → Holds Kept (with_member d m)
-member-kept d m h = rule_then Kept (stands d.place place.Nodes) Syntax _ (λ st. rule_then Kept (is_within 1 99 m.node.0) (Limit (member_what m.server)) _ (λ within.
+member-kept : (d : Draft) (m : Member) → Kept d → Holds Kept (draft_with_member d m)
+member-kept d m h = rule_then Kept (may_follow d.place place.Nodes) Syntax _ (λ st. rule_then Kept (is_within 1 99 m.node.0) (Limit (member_what m.server)) _ (λ within.
     rule_then Kept (nat_lt (length d.members) 16) (Limit what.Nodes) _ (λ few. rule_then Kept (not (has_member d.members m.node)) _ _ (λ new.
     let low : rank d.place ≤ 7 = stands_below d.place place.Nodes st in
     let room : length d.members < 16 = ltb-true _ _ few in
@@ -220,7 +220,7 @@ member-kept d m h = rule_then Kept (stands d.place place.Nodes) Syntax _ (λ st.
       nodes = record {
         whole = in_lines d.nodes d.members d.plan m h.nodes.whole plan;
         within = pushed_all (λ member. is_within 1 99 member.node.0) d.members m h.nodes.within within;
-        distinct = pushed_distinct same_node d.members m h.nodes.distinct (not-true _ new);
+        distinct = pushed_distinct same_member_node d.members m h.nodes.distinct (not-true _ new);
         few = omega (arith, length-append d.members (m ∷ []));
       };
       plan = h.plan;
@@ -254,7 +254,7 @@ members-joined nodes members plan moment m h within room new =
     record {
       whole = rw more (ap (λ (ms : List Member). ms ++ m ∷ []) h.whole ∙ append_assoc nodes (filter_map (λ (p : PlanStep). joining p.step) plan) (m ∷ []));
       within = pushed_all (λ member. is_within 1 99 member.node.0) members m h.within within;
-      distinct = pushed_distinct same_node members m h.distinct new;
+      distinct = pushed_distinct same_member_node members m h.distinct new;
       few = omega (arith, length-append members (m ∷ []));
     }
 
@@ -263,7 +263,7 @@ in_plan : (d : Draft) (caches : List Cache) (plan : List PlanStep) → Kept d �
 in_plan d caches plan h low = record { lines = λ e. absurd (cc); firsts = λ e. absurd (cc); no_plan = λ e. absurd (cc); no_session = λ e. h.placed.no_session (below _ _ low) }
 
 join-kept : (d : Draft) (moment : ℕ) (m : Member) → Kept d → Holds Kept (with_join d moment m)
-join-kept d moment m h = rule_then Kept (stands d.place place.Plan) Syntax _ (λ st. rule_then Kept (is_within 1 1000000 moment) (Limit what.Moment) _ (λ at.
+join-kept d moment m h = rule_then Kept (may_follow d.place place.Plan) Syntax _ (λ st. rule_then Kept (is_within 1 1000000 moment) (Limit what.Moment) _ (λ at.
     rule_then Kept (is_within 1 99 m.node.0) (Limit what.Plan) _ (λ within. rule_then Kept (rises d.plan moment) (Limit what.Moment) _ (λ up.
     rule_then Kept (nat_lt (length d.members) 16) (Limit what.Nodes) _ (λ few. rule_then Kept (nat_lt (length d.plan) 64) (Limit what.Steps) _ (λ steps.
     rule_then Kept (not (has_member d.members m.node)) _ _ (λ new.
@@ -296,7 +296,7 @@ link_fits caches before (step.Start n) h = cc
 link_fits caches before (step.Stop n) h = cc
 
 links-kept : (d : Draft) (moment : ℕ) (s : Step) → Kept d → is_link s ≡ true → Holds Kept (with_links d moment s)
-links-kept d moment s h g = rule_then Kept (stands d.place place.Plan) Syntax _ (λ st. rule_then Kept (is_within 1 1000000 moment) (Limit what.Moment) _ (λ at.
+links-kept d moment s h g = rule_then Kept (may_follow d.place place.Plan) Syntax _ (λ st. rule_then Kept (is_within 1 1000000 moment) (Limit what.Moment) _ (λ at.
     rule_then Kept (nodes_fit s) (Limit what.Plan) _ (λ within. rule_then Kept (rises d.plan moment) (Limit what.Moment) _ (λ up.
     rule_then Kept (nat_lt (length d.plan) 64) (Limit what.Steps) _ (λ steps. rule_then Kept (nodes_named d.named s) _ _ (λ there.
     let low : rank d.place ≤ 8 = stands_below d.place place.Plan st in
@@ -318,11 +318,11 @@ kinds_of d (inr (inl h)) f = absurd (let e : (1 == 2) ≡ true = rw h.is at f in
 kinds_of d (inr (inr h)) f = h.kinds
 
 start-kept : (d : Draft) (moment : ℕ) (words : CacheWords) → Kept d → (d.format == 2) ≡ true → GoodName words.name → Holds Kept (with_start d moment words)
-start-kept d moment words h f g = rule_then Kept (stands d.place place.Plan && not (names_data_here d.caches words.name)) Syntax _ (λ stands_so. rule_then Kept (is_within 1 1000000 moment) (Limit what.Moment) _ (λ at.
+start-kept d moment words h f g = rule_then Kept (may_follow d.place place.Plan && not (names_data_here d.caches words.name)) Syntax _ (λ stands_so. rule_then Kept (is_within 1 1000000 moment) (Limit what.Moment) _ (λ at.
     then_holds Kept (λ c. (good_cache c ≡ true) × (c.first ≡ false) × (c.«data» ≡ false)) (cache_of what.Plan false false words) _ (cache_of-good what.Plan false false words g) (λ c k.
     rule_then Kept (rises d.plan moment) (Limit what.Moment) _ (λ up. rule_then Kept (nat_lt (length d.plan) 64) (Limit what.Steps) _ (λ steps.
     then_holds Kept (Room d c.parts) (total_with d c.parts) _ (room d c.parts) (λ total r. rule_then Kept (not (has_cache d.caches c.name)) _ _ (λ new.
-    let low : rank d.place ≤ 8 = stands_below d.place place.Plan (and_parts (stands d.place place.Plan) (not (names_data_here d.caches words.name)) stands_so).0 in
+    let low : rank d.place ≤ 8 = stands_below d.place place.Plan (and_parts (may_follow d.place place.Plan) (not (names_data_here d.caches words.name)) stands_so).0 in
     let sessions : d.sessions ≡ [] = h.placed.no_session (below _ _ low) in
     record {
       unread = λ e. absurd (cc);
@@ -335,17 +335,17 @@ start-kept d moment words h f g = rule_then Kept (stands d.place place.Plan && n
       objects = h.objects;
     })))))))
 
-known_is : (o : Option ℕ) (n : ℕ) → known o ≡ Ok n → o ≡ Some n
+known_is : (o : Option ℕ) (n : ℕ) → known_cache o ≡ Ok n → o ≡ Some n
 known_is (Some m) n e = cc
 known_is None n e = cc
 
 stop-kept : (d : Draft) (moment : ℕ) (name : Option (List ℕ)) → Kept d → Holds Kept (with_stop d moment name)
-stop-kept d moment name h = rule_then Kept (stands d.place place.Plan && not (names_data_here d.caches name) && not (names_first d.caches name)) Syntax _ (λ stands_so.
+stop-kept d moment name h = rule_then Kept (may_follow d.place place.Plan && not (names_data_here d.caches name) && not (names_first d.caches name)) Syntax _ (λ stands_so.
     rule_then Kept (is_within 1 1000000 moment) (Limit what.Moment) _ (λ at. fit_then Kept name what.Name _ (λ called is.
     rule_then Kept (rises d.plan moment) (Limit what.Moment) _ (λ up. rule_then Kept (nat_lt (length d.plan) 64) (Limit what.Steps) _ (λ steps.
-    ok_then Kept (known (place_named d.caches (Some called))) _ (λ n found. rule_then Kept (not (is_stopped d.plan n)) _ _ (λ new.
-    let outer = and_parts (stands d.place place.Plan && not (names_data_here d.caches name)) (not (names_first d.caches name)) stands_so in
-    let inner = and_parts (stands d.place place.Plan) (not (names_data_here d.caches name)) outer.0 in
+    ok_then Kept (known_cache (place_named d.caches (Some called))) _ (λ n found. rule_then Kept (not (is_stopped d.plan n)) _ _ (λ new.
+    let outer = and_parts (may_follow d.place place.Plan && not (names_data_here d.caches name)) (not (names_first d.caches name)) stands_so in
+    let inner = and_parts (may_follow d.place place.Plan) (not (names_data_here d.caches name)) outer.0 in
     let low : rank d.place ≤ 8 = stands_below d.place place.Plan inner.0 in
     let plain : names_data_here d.caches (Some called) ≡ false = rw is at (not-true _ inner.1) in
     let later : names_first d.caches (Some called) ≡ false = rw is at (not-true _ outer.1) in
@@ -364,7 +364,7 @@ stop-kept d moment name h = rule_then Kept (stands d.place place.Plan && not (na
 -- sessions
 
 session-kept : (d : Draft) (name : Option (List ℕ)) (n : NodeId) → Kept d → GoodName name → Holds Kept (with_session d name n)
-session-kept d name n h g = rule_then Kept (stands d.place place.Sessions) Syntax _ (λ st. fit_then Kept name what.Name _ (λ called is.
+session-kept d name n h g = rule_then Kept (may_follow d.place place.Sessions) Syntax _ (λ st. fit_then Kept name what.Name _ (λ called is.
     rule_then Kept (is_within 1 99 n.0) (Limit what.Session) _ (λ within. rule_then Kept (nat_lt (length d.sessions) 64) (Limit what.Sessions) _ (λ few.
     rule_then Kept (is_named d.named n) _ _ (λ there. rule_then Kept (not (has_session d.sessions called)) _ _ (λ new.
     let low : rank d.place ≤ 9 = stands_below d.place place.Sessions st in
@@ -449,7 +449,7 @@ end-kept d h = rule_then Kept (in_script d.place) Syntax _ (λ inside.
 
 -- a key of a plain cache
 plain-key : (caches : List Cache) (name : List ℕ) (n : ℕ) (text : Key) → cache_place caches name ≡ Some n → names_data_here caches (Some name) ≡ false
-    → is_text is_key_byte 32 text.text ≡ true → good_key caches (in_cache n text) ≡ true
+    → is_text is_key_byte 32 text.text ≡ true → good_key caches (key_in_cache n text) ≡ true
 plain-key caches name n text e plain t =
     let at = cache_at caches name n e in
     let ones = none_at (λ c. c.«data» && bytes_eq c.name name) caches n at.cache plain at.there in
@@ -464,7 +464,7 @@ plain-key caches name n text e plain t =
 
 -- an object of a data cache
 data-key : (caches : List Cache) (name : List ℕ) (n : ℕ) (text : Key) → cache_place caches name ≡ Some n → names_plain_here caches (Some name) ≡ false
-    → is_name text.text ≡ true → good_object caches (in_cache n text) ≡ true
+    → is_name text.text ≡ true → good_object caches (key_in_cache n text) ≡ true
 data-key caches name n text e plain t =
     let at = cache_at caches name n e in
     let ones = none_at (λ c. not c.«data» && bytes_eq c.name name) caches n at.cache plain at.there in
@@ -509,9 +509,9 @@ outside_script _ h = cc
 -- a command with a key, of a cache that is there
 record Stands (d : Draft) (kd : Option Kind) (n : ℕ) (text : Key) : Type 0 where
   inside : in_script d.place ≡ true
-  good : GoodFor d.caches (in_cache n text) kd
+  good : GoodFor d.caches (key_in_cache n text) kd
   free : (plain_kind kd || not (is_block d.place)) ≡ true
-  agreed : If (λ k. is_other d.objects (in_cache n text) k ≡ false) kd
+  agreed : If (λ k. is_other d.objects (key_in_cache n text) k ≡ false) kd
 
 stands-plain : (d : Draft) (name : List ℕ) (n : ℕ) (text : Key) → cache_place d.caches name ≡ Some n
     → (in_script d.place && not (names_data_here d.caches (Some name))) ≡ true → is_text is_key_byte 32 text.text ≡ true → Stands d None n text
@@ -520,9 +520,9 @@ stands-plain d name n text e s t =
     record { inside = parts.0; good = plain-key d.caches name n text e (not-true _ parts.1) t; free = refl; agreed = tt }
 
 stands-data : (d : Draft) (name : List ℕ) (n : ℕ) (text : Key) (kd : Kind) → cache_place d.caches name ≡ Some n
-    → (is_outside d.place && not (names_plain_here d.caches (Some name)) && not (is_other d.objects (in_cache n text) kd)) ≡ true → is_name text.text ≡ true → Stands d (Some kd) n text
+    → (is_outside d.place && not (names_plain_here d.caches (Some name)) && not (is_other d.objects (key_in_cache n text) kd)) ≡ true → is_name text.text ≡ true → Stands d (Some kd) n text
 stands-data d name n text kd e s t =
-    let outer = and_parts (is_outside d.place && not (names_plain_here d.caches (Some name))) (not (is_other d.objects (in_cache n text) kd)) s in
+    let outer = and_parts (is_outside d.place && not (names_plain_here d.caches (Some name))) (not (is_other d.objects (key_in_cache n text) kd)) s in
     let inner = and_parts (is_outside d.place) (not (names_plain_here d.caches (Some name))) outer.0 in
     let out = outside_script d.place inner.0 in
     let closed = out.1 in
@@ -535,30 +535,30 @@ stands_of d None key name n text cache is e s t =
 stands_of d (Some kd) key name n text cache is e s t =
     stands-data d name n text kd e (rw (cache, is, e) at s) (let g : GoodObject (Some text) = rw is at t in g)
 
-pushed_key : (d : Draft) (kd : Option Kind) (n : ℕ) (text : Key) (x : Item) → Kept d → Stands d kd n text → Made d.caches (in_cache n text) kd x → has_room d ≡ true
-    → Kept (with_item (with_object d (in_cache n text) kd) x)
+pushed_key : (d : Draft) (kd : Option Kind) (n : ℕ) (text : Key) (x : Item) → Kept d → Stands d kd n text → Made d.caches (key_in_cache n text) kd x → has_room d ≡ true
+    → Kept (with_item (with_object d (key_in_cache n text) kd) x)
 pushed_key d None n text x h s m room =
     item-kept d x d.objects h s.inside room m.good (rw m.plain refl) (objects-plain d.objects d.sessions d.session x h.objects m.object)
 pushed_key d (Some kd) n text x h s m room =
     let free : (is_plain x || not (is_block d.place)) ≡ true = rw m.plain s.free in
-    cond_both (has_object d.objects (in_cache n text)) d (record d { objects = d.objects ++ (in_cache n text, kd) ∷ [] }) (λ e. Kept (with_item e x))
-    (λ there. item-kept d x d.objects h s.inside room m.good free (objects-known d.objects d.sessions d.session x (in_cache n text) kd h.objects m.object s.agreed there))
-    (λ new. item-kept d x (d.objects ++ (in_cache n text, kd) ∷ []) h s.inside room m.good free (objects-new d.objects d.sessions d.session x (in_cache n text) kd h.objects m.object s.agreed))
+    cond_both (has_object d.objects (key_in_cache n text)) d (record d { objects = d.objects ++ (key_in_cache n text, kd) ∷ [] }) (λ e. Kept (with_item e x))
+    (λ there. item-kept d x d.objects h s.inside room m.good free (objects-known d.objects d.sessions d.session x (key_in_cache n text) kd h.objects m.object s.agreed there))
+    (λ new. item-kept d x (d.objects ++ (key_in_cache n text, kd) ∷ []) h s.inside room m.good free (objects-new d.objects d.sessions d.session x (key_in_cache n text) kd h.objects m.object s.agreed))
 
 keyed-kept : (d : Draft) (v : Verb) (key : KeyWords) → Kept d → GoodVerb v key → Holds Kept (with_keyed d v key)
 keyed-kept d v key h g = rule_then Kept (verb_stands d (kind_of v) (place_of_key d.caches key) key) Syntax _ (λ st.
     fit_then Kept key.cache what.Name _ (λ name cache. fit_then Kept key.key what.Key _ (λ text is.
-    ok_then Kept (keyed v (in_cache (unwrap_or (place_of_key d.caches key) 0) text)) _ (λ x e. rule_then Kept (has_room d) _ _ (λ room.
-    ok_then Kept (known (place_of_key d.caches key)) _ (λ n found.
+    ok_then Kept (keyed v (key_in_cache (unwrap_or (place_of_key d.caches key) 0) text)) _ (λ x e. rule_then Kept (has_room d) _ _ (λ room.
+    ok_then Kept (known_cache (place_of_key d.caches key)) _ (λ n found.
     let there : place_of_key d.caches key ≡ Some n = known_is _ n found in
     let place : cache_place d.caches name ≡ Some n = rw cache at there in
-    let made_so : keyed v (in_cache n text) ≡ Ok x = rw there at e in
+    let made_so : keyed v (key_in_cache n text) ≡ Ok x = rw there at e in
     let stands_so = stands_of d (kind_of v) key name n text cache is place st (verb_key v key g) in
-    rw there (pushed_key d (kind_of v) n text x h stands_so (made d.caches v (in_cache n text) x (verb_value v key g) stands_so.good made_so) room)))))))
+    rw there (pushed_key d (kind_of v) n text x h stands_so (made d.caches v (key_in_cache n text) x (verb_value v key g) stands_so.good made_so) room)))))))
 
 -- every line
 
-stepped-kept : (d : Draft) (l : Line) → Kept d → GoodLine d.format l → Holds Kept (stepped d l)
+stepped-kept : (d : Draft) (l : Line) → Kept d → GoodLine d.format l → Holds Kept (draft_after_line d l)
 stepped-kept d line.Blank h g = h
 stepped-kept d (line.Head format) h g = head-kept d format h g
 stepped-kept d (line.Setting s n) h g = setting-kept d s n h g
@@ -574,4 +574,4 @@ stepped-kept d (line.Keyed v key) h g = keyed-kept d v key h g
 stepped-kept d line.End h g = end-kept d h
 
 pub line-kept : (d : Draft) (bytes : List ℕ) → Kept d → Holds Kept (line_taken d bytes)
-line-kept d bytes h = then_holds Kept (GoodLine d.format) (line_of d.format bytes) _ (line_of-good d.format bytes) (λ l g. stepped-kept d l h g)
+line-kept d bytes h = then_holds Kept (GoodLine d.format) (line_meant d.format bytes) _ (line_of-good d.format bytes) (λ l g. stepped-kept d l h g)

@@ -2,7 +2,7 @@
 use Rattle.std.proofs.Common.{◌≡◌, ℕ, ◌+◌, ◌≤◌, Bool, true, false, List, [], ◌∷◌, ◌++◌, length}
 use Rattle.std.specs.Prelude.{◌&&◌, ◌||◌, not, nat_le, filter, filter_map, flat_map, map, sum_by, slice_get, option_to_list, ◌⊎◌}
 use Rattle.std.specs.List.{list_all, list_any}
-use Rattle.ignite_types.specs.Good.{is_within, is_name, are_distinct, good_cache, in_order, has_cache_line, is_started, same_cache_name, joining, same_node, no_moment_falls, starting, starts, can_stop, count_up, good_item, good_blocks, open_behind, object_of, good_kinds, same_session_name, ObjectKind, Long, Sequence, Queue}
+use Rattle.ignite_types.specs.Good.{Long, ObjectKind, Queue, Sequence, are_distinct, can_stop, count_up, good_blocks, good_cache, good_item, good_kinds, has_cache_line, in_order, is_name, is_started, is_within, joining, no_moment_falls, object_of, open_behind, same_cache_name, same_member_node, same_session_name, starting, starts_cache}
 use Rattle.ignite_types.specs.Good as good
 use Rattle.ignite_types.specs.declared.names.NodeId.{NodeId}
 use Rattle.ignite_types.specs.declared.text.Key.{Key}
@@ -20,9 +20,9 @@ use Rattle.scen_text.specs.declared.limits.Settings.{Settings}
 use Rattle.scen_text.specs.declared.place.Place.{Place}
 use Rattle.scen_text.specs.declared.place.Place.TheVariants as place
 use Rattle.scen_text.specs.Drafts.{nodes_named}
-use Rattle.scen_text.specs.Known.{same_object, is_named}
+use Rattle.scen_text.specs.Known.{is_named, same_object}
 use Rattle.scen_text.specs.Limits.{default_cache}
-use Rattle.scen_text.specs.Places.{rank, in_script, is_start}
+use Rattle.scen_text.specs.Places.{in_script, is_start_place, rank}
 
 -- caches
 
@@ -72,7 +72,7 @@ pub record Placed (place : Place) (caches : List Cache) (plan : List PlanStep) (
 pub record NodesOf (nodes members : List Member) (plan : List PlanStep) : Type 0 where
   pub whole : members ≡ nodes ++ filter_map (λ planned. joining planned.step) plan
   pub within : list_all (λ member. is_within 1 99 member.node.0) members ≡ true
-  pub distinct : are_distinct same_node members ≡ true
+  pub distinct : are_distinct same_member_node members ≡ true
   pub few : length members ≤ 16
 
 -- the plan
@@ -104,7 +104,7 @@ pub record PlanOf (named : List NodeId) (caches : List Cache) (plan : List PlanS
   pub numbers : count_up (length (filter (λ cache. cache.first) caches)) (started_of plan) ≡ true
   pub counted : length (filter is_started caches) ≡ length (started_of plan)
   pub total : length caches ≡ length (filter (λ cache. cache.first) caches) + length (started_of plan)
-  pub begun : (n : ℕ) → started_at caches n ≡ true → list_any (starts n) (steps_of plan) ≡ true
+  pub begun : (n : ℕ) → started_at caches n ≡ true → list_any (starts_cache n) (steps_of plan) ≡ true
 
 -- sessions
 
@@ -155,7 +155,7 @@ pub record ObjectsOf (objects : List (Key × Kind)) (sessions : List Session) (s
 
 -- all of it
 pub record Kept (d : Draft) : Type 0 where
-  pub unread : is_start d.place ≡ true → NoCaches d.format d.settings d.caches d.partitions
+  pub unread : is_start_place d.place ≡ true → NoCaches d.format d.settings d.caches d.partitions
   pub caches : CachesOf d.format d.settings d.caches d.partitions
   pub placed : Placed d.place d.caches d.plan d.sessions
   pub nodes : NodesOf d.nodes d.members d.plan

@@ -6,7 +6,7 @@ use Rattle.std.specs.Str.{is_utf8}
 use Rattle.std.proofs.Common.{inl, inr}
 use Rattle.std.proofs.lemmas.Bool.{cond_both, and_parts, and_from, eqb-false, ltb-false, le-leb, leb-true}
 use Rattle.ignite_types.specs.Texts.{text_of, first_bad, unless_bad, in_cache, is_key_byte, is_value_byte}
-use Rattle.ignite_types.specs.Good.{is_within, is_text, is_name, is_name_byte, good_value}
+use Rattle.ignite_types.specs.Good.{good_value, is_name, is_name_byte, is_text, is_within}
 use Rattle.ignite_types.specs.declared.text.TextFault.{TextFault}
 use Rattle.ignite_types.specs.declared.text.TextFault.TheVariants as text
 use Rattle.ignite_types.specs.declared.text.Key.{Key}
@@ -25,12 +25,12 @@ use Rattle.scen_text.specs.declared.line.Verb.{Verb}
 use Rattle.scen_text.specs.declared.line.Verb.TheVariants as verb
 use Rattle.scen_text.specs.declared.line.Setting.{Setting}
 use Rattle.scen_text.specs.declared.line.Setting.TheVariants as setting
-use Rattle.scen_text.specs.Forms.{cache_words, node, mode, role, key_words, object_words}
+use Rattle.scen_text.specs.Forms.{cache_words, key_words, mode, node_of_word, object_words, role}
 use Rattle.scen_text.specs.Keywords.{shared_keyword, command_keyword, first_keyword, second_keyword, or_else, keyword_of, step_keyword}
-use Rattle.scen_text.specs.Meaning.{format_of, head_line, setting_line, cache_line, member_line, session_line, timeout, begin_line, sleep_line, bare_line, key_line, key_value_line, key_integer_line, object_line, object_value_line, object_integer_line, meant, known, meaning, is_remark, line_of}
+use Rattle.scen_text.specs.Meaning.{bare_line, begin_line, cache_line, format_of, head_line, is_remark, key_integer_line, key_line, key_value_line, known_line, line_meant, meaning, meant, member_line, object_integer_line, object_line, object_value_line, session_line_meant, setting_line, sleep_line, timeout}
 use Rattle.scen_text.specs.Plans.{step_meant, step_or_syntax, plan_line}
 use Rattle.scen_text.specs.Words as words
-use Rattle.scen_text.specs.Words.{only_word, two_words, number, name, fitting, key, object, value, at_slash, integer}
+use Rattle.scen_text.specs.Words.{at_slash, fitting, integer, key_of_word, name, number_of_word, object, only_word, two_words, value_of_word}
 use Rattle.scen_text.proofs.Cuts.{place_none}
 use Rattle.scen_text.proofs.Holds.{Holds, then_holds, any_then}
 
@@ -129,14 +129,14 @@ fitting-good P false (Err text.Empty) h = tt
 fitting-good P true (Err (text.BadByte n)) h = tt
 fitting-good P false (Err (text.BadByte n)) h = tt
 
-key-good : (word : List ℕ) → Holds GoodText (key word)
+key-good : (word : List ℕ) → Holds GoodText (key_of_word word)
 key-good word = fitting-good (λ k. is_text is_key_byte 32 k.text ≡ true) (list_all is_key_byte word) _ (in_first (text_of 32 is_key_byte word) (text_of-good 32 is_key_byte word))
   where
     in_first : (r : Result (List ℕ) TextFault) → Holds (λ t. is_text is_key_byte 32 t ≡ true) r → Holds (λ k. is_text is_key_byte 32 k.text ≡ true) (in_cache 0 r)
     in_first (Ok t) h = h
     in_first (Err e) h = tt
 
-value-good : (word : List ℕ) → Holds GoodValue (value word)
+value-good : (word : List ℕ) → Holds GoodValue (value_of_word word)
 value-good word = fitting-good (λ v. good_value v ≡ true) (list_all is_value_byte word) (text_of 64 is_value_byte word) (text_of-good 64 is_value_byte word)
 
 named_from : (word : List ℕ) → ((length word == 0) || not (list_all is_name_byte word)) ≡ false → nat_le (length word) 16 ≡ true → is_name word ≡ true
@@ -167,8 +167,8 @@ key_words-good : (format : ℕ) (word : List ℕ) → Holds (λ k. GoodText k.ke
 key_words-good format word =
     cond_both (format == 2) _ _ (Holds (λ k. GoodText k.key))
     (λ e. any_then (λ k. GoodText k.key) (at_slash word) _ (λ found. any_then (λ k. GoodText k.key) (name found.0) _ (λ cache.
-    then_holds (λ k. GoodText k.key) GoodText (key found.1) _ (key-good found.1) (λ k h. h))))
-    (λ e. then_holds (λ k. GoodText k.key) GoodText (key word) _ (key-good word) (λ k h. h))
+    then_holds (λ k. GoodText k.key) GoodText (key_of_word found.1) _ (key-good found.1) (λ k h. h))))
+    (λ e. then_holds (λ k. GoodText k.key) GoodText (key_of_word word) _ (key-good word) (λ k h. h))
 
 object_words-good : (word : List ℕ) → Holds (λ k. GoodObject k.key) (object_words word)
 object_words-good word =
@@ -179,8 +179,8 @@ cache_words-good : (rest : List (List ℕ)) → Holds (λ w. GoodName w.name) (c
 cache_words-good rest =
     any_then (λ w. GoodName w.name) (words.four_words rest) _ (λ found.
     then_holds (λ w. GoodName w.name) GoodName (name found.0) _ (name-good found.0) (λ called h.
-    any_then (λ w. GoodName w.name) (number found.1) _ (λ parts. any_then (λ w. GoodName w.name) (number found.2) _ (λ backups.
-    any_then (λ w. GoodName w.name) (number found.3) _ (λ near. h)))))
+    any_then (λ w. GoodName w.name) (number_of_word found.1) _ (λ parts. any_then (λ w. GoodName w.name) (number_of_word found.2) _ (λ backups.
+    any_then (λ w. GoodName w.name) (number_of_word found.3) _ (λ near. h)))))
 
 -- lines
 
@@ -194,19 +194,19 @@ head-good format rest =
 
 setting-good : (format : ℕ) (s : Setting) (rest : List (List ℕ)) → (format == 2) ≡ false → Holds (GoodLine format) (setting_line s rest)
 setting-good format s rest h =
-    any_then (GoodLine format) (only_word rest) _ (λ w. any_then (GoodLine format) (number w) _ (λ n. h))
+    any_then (GoodLine format) (only_word rest) _ (λ w. any_then (GoodLine format) (number_of_word w) _ (λ n. h))
 
 cache-good : (format : ℕ) (d : Bool) (rest : List (List ℕ)) → (format == 2) ≡ true → Holds (GoodLine format) (cache_line d rest)
 cache-good format d rest h = then_holds (GoodLine format) (λ w. GoodName w.name) (cache_words rest) _ (cache_words-good rest) (λ w g. (h, g))
 
 member-good : (format : ℕ) (server : Bool) (rest : List (List ℕ)) → Holds (GoodLine format) (member_line server rest)
 member-good format server rest =
-    any_then (GoodLine format) (only_word rest) _ (λ w. any_then (GoodLine format) (node w) _ (λ n. tt))
+    any_then (GoodLine format) (only_word rest) _ (λ w. any_then (GoodLine format) (node_of_word w) _ (λ n. tt))
 
-session-good : (format : ℕ) (rest : List (List ℕ)) → Holds (GoodLine format) (session_line rest)
+session-good : (format : ℕ) (rest : List (List ℕ)) → Holds (GoodLine format) (session_line_meant rest)
 session-good format rest =
     any_then (GoodLine format) (two_words rest) _ (λ w. then_holds (GoodLine format) GoodName (name w.0) _ (name-good w.0)
-    (λ called h. any_then (GoodLine format) (node w.1) _ (λ n. h)))
+    (λ called h. any_then (GoodLine format) (node_of_word w.1) _ (λ n. h)))
 
 begin-good : (format : ℕ) (rest : List (List ℕ)) → Holds (GoodLine format) (begin_line rest)
 begin-good format [] = refl
@@ -215,7 +215,7 @@ begin-good format (w ∷ rest) =
 
 sleep-good : (format : ℕ) (rest : List (List ℕ)) → Holds (GoodLine format) (sleep_line rest)
 sleep-good format rest =
-    any_then (GoodLine format) (only_word rest) _ (λ w. any_then (GoodLine format) (number w) _ (λ n. refl))
+    any_then (GoodLine format) (only_word rest) _ (λ w. any_then (GoodLine format) (number_of_word w) _ (λ n. refl))
 
 bare-good : (format : ℕ) (l : Line) (rest : List (List ℕ)) → GoodLine format l → Holds (GoodLine format) (bare_line l rest)
 bare-good format l [] h = h
@@ -230,7 +230,7 @@ key_value-good : (format : ℕ) (rest : List (List ℕ)) → Holds (GoodLine for
 key_value-good format rest =
     any_then (GoodLine format) (two_words rest) _ (λ w.
     then_holds (GoodLine format) (λ k. GoodText k.key) (key_words format w.0) _ (key_words-good format w.0)
-    (λ k h. then_holds (GoodLine format) GoodValue (value w.1) _ (value-good w.1) (λ v g. (h, g))))
+    (λ k h. then_holds (GoodLine format) GoodValue (value_of_word w.1) _ (value-good w.1) (λ v g. (h, g))))
 
 key_integer-good : (format : ℕ) (rest : List (List ℕ)) → Holds (GoodLine format) (key_integer_line format rest)
 key_integer-good format rest =
@@ -247,7 +247,7 @@ object_value-good : (format : ℕ) (rest : List (List ℕ)) → Holds (GoodLine 
 object_value-good format rest =
     any_then (GoodLine format) (two_words rest) _ (λ w.
     then_holds (GoodLine format) (λ k. GoodObject k.key) (object_words w.0) _ (object_words-good w.0)
-    (λ k h. then_holds (GoodLine format) GoodValue (value w.1) _ (value-good w.1) (λ v g. (h, g))))
+    (λ k h. then_holds (GoodLine format) GoodValue (value_of_word w.1) _ (value-good w.1) (λ v g. (h, g))))
 
 object_integer-good : (format : ℕ) (rest : List (List ℕ)) → Holds (GoodLine format) (object_integer_line rest)
 object_integer-good format rest =
@@ -272,10 +272,10 @@ fits-step_keyword format word =
     (λ e. cond_both ((format == 2) && bytes_eq word (codes "stop")) _ _ (If (FitsStep format)) (λ e. tt) (λ e. tt))))))
 
 step-good : (format moment : ℕ) (k : StepKeyword) (rest : List (List ℕ)) → FitsStep format k → Holds (GoodLine format) (step_meant moment k rest)
-step-good format moment step.Join rest f = any_then (GoodLine format) (two_words rest) _ (λ w. any_then (GoodLine format) (node w.0) _ (λ n. any_then (GoodLine format) (role w.1) _ (λ s. tt)))
-step-good format moment step.Lose rest f = any_then (GoodLine format) (only_word rest) _ (λ w. any_then (GoodLine format) (node w) _ (λ n. refl))
-step-good format moment step.Hold rest f = any_then (GoodLine format) (two_words rest) _ (λ w. any_then (GoodLine format) (node w.0) _ (λ n. any_then (GoodLine format) (node w.1) _ (λ m. refl)))
-step-good format moment step.Release rest f = any_then (GoodLine format) (two_words rest) _ (λ w. any_then (GoodLine format) (node w.0) _ (λ n. any_then (GoodLine format) (node w.1) _ (λ m. refl)))
+step-good format moment step.Join rest f = any_then (GoodLine format) (two_words rest) _ (λ w. any_then (GoodLine format) (node_of_word w.0) _ (λ n. any_then (GoodLine format) (role w.1) _ (λ s. tt)))
+step-good format moment step.Lose rest f = any_then (GoodLine format) (only_word rest) _ (λ w. any_then (GoodLine format) (node_of_word w) _ (λ n. refl))
+step-good format moment step.Hold rest f = any_then (GoodLine format) (two_words rest) _ (λ w. any_then (GoodLine format) (node_of_word w.0) _ (λ n. any_then (GoodLine format) (node_of_word w.1) _ (λ m. refl)))
+step-good format moment step.Release rest f = any_then (GoodLine format) (two_words rest) _ (λ w. any_then (GoodLine format) (node_of_word w.0) _ (λ n. any_then (GoodLine format) (node_of_word w.1) _ (λ m. refl)))
 step-good format moment step.Start rest f = then_holds (GoodLine format) (λ w. GoodName w.name) (cache_words rest) _ (cache_words-good rest) (λ w g. (f, g))
 step-good format moment step.Stop rest f =
     any_then (GoodLine format) (only_word rest) _ (λ w. then_holds (GoodLine format) GoodName (name w) _ (name-good w) (λ called h. h))
@@ -284,7 +284,7 @@ plan-good : (format : ℕ) (rest : List (List ℕ)) → Holds (GoodLine format) 
 plan-good format [] = tt
 plan-good format (first ∷ []) = tt
 plan-good format (first ∷ second ∷ rest) =
-    any_then (GoodLine format) (number first) _ (λ moment. or_syntax moment (step_keyword format second) (fits-step_keyword format second))
+    any_then (GoodLine format) (number_of_word first) _ (λ moment. or_syntax moment (step_keyword format second) (fits-step_keyword format second))
   where
     or_syntax : (moment : ℕ) (o : Option StepKeyword) → If (FitsStep format) o → Holds (GoodLine format) (step_or_syntax moment o rest)
     or_syntax moment (Some k) f = step-good format moment k rest f
@@ -374,7 +374,7 @@ meant-good format keyword.Next rest f = object_line-good format verb.Next rest (
 meant-good format keyword.Offer rest f = object_value-good format rest
 meant-good format keyword.Poll rest f = object_line-good format verb.Poll rest (λ k h. h)
 
-known-good : (format : ℕ) (o : Option Keyword) (rest : List (List ℕ)) → If (FitsKeyword format) o → Holds (GoodLine format) (known format o rest)
+known-good : (format : ℕ) (o : Option Keyword) (rest : List (List ℕ)) → If (FitsKeyword format) o → Holds (GoodLine format) (known_line format o rest)
 known-good format (Some k) rest f = meant-good format k rest f
 known-good format None rest f = tt
 
@@ -382,7 +382,7 @@ meaning-good : (format : ℕ) (ws : List (List ℕ)) → Holds (GoodLine format)
 meaning-good format [] = tt
 meaning-good format (w ∷ ws) = known-good format (keyword_of format w) ws (fits-keyword format w)
 
-pub line_of-good : (format : ℕ) (bytes : List ℕ) → Holds (GoodLine format) (line_of format bytes)
+pub line_of-good : (format : ℕ) (bytes : List ℕ) → Holds (GoodLine format) (line_meant format bytes)
 line_of-good format bytes =
     cond_both (not (is_utf8 bytes)) _ _ (Holds (GoodLine format)) (λ e. tt)
     (λ e. cond_both (is_remark bytes) _ _ (Holds (GoodLine format)) (λ r. tt) (λ r. meaning-good format (words.words bytes)))

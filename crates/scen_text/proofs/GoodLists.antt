@@ -4,7 +4,7 @@ use Rattle.std.specs.Prelude.{◌&&◌, ◌||◌, not, ◌==◌, nat_le}
 use Rattle.std.specs.List.{list_all, list_any}
 use Rattle.std.proofs.lemmas.Bool.{and_parts, and_from, not-true, eq-eqb}
 use Rattle.std.proofs.lemmas.List.Folds.{list_all-append, list_any-append}
-use Rattle.ignite_types.specs.Good.{are_distinct, has_cache_line, has_data_line, is_started, in_order, no_moment_falls, count_up}
+use Rattle.ignite_types.specs.Good.{are_distinct, count_up, has_cache_line, has_data_line, in_order, is_started, no_moment_falls}
 use Rattle.ignite_types.specs.declared.scenario.Cache.{Cache}
 use Rattle.ignite_types.specs.declared.scenario.PlanStep.{PlanStep}
 use Rattle.scen_text.specs.Known.{rises}

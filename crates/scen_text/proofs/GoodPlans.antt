@@ -6,14 +6,14 @@ use Rattle.std.specs.List.{position_or_len}
 use Rattle.std.proofs.lemmas.Bool.{and_parts, and_from, or_left, eq-eqb}
 use Rattle.std.proofs.lemmas.List.Folds.{list_any-append}
 use Rattle.std.proofs.lemmas.List.Elements.{filter-append, filter_map-append}
-use Rattle.ignite_types.specs.Good.{is_within, has_cache_line, is_started, starting, starts, stops, can_stop}
+use Rattle.ignite_types.specs.Good.{can_stop, has_cache_line, is_started, is_within, starting, starts_cache, stops}
 use Rattle.ignite_types.specs.declared.names.NodeId.{NodeId}
 use Rattle.ignite_types.specs.declared.scenario.Cache.{Cache}
 use Rattle.ignite_types.specs.declared.scenario.PlanStep.{PlanStep}
 use Rattle.ignite_types.specs.declared.scenario.Step.{Step}
 use Rattle.ignite_types.specs.declared.scenario.Step.TheVariants as step
 use Rattle.scen_text.specs.Drafts.{nodes_named}
-use Rattle.scen_text.specs.Known.{cache_place, names_data, is_first, is_stopped, rises}
+use Rattle.scen_text.specs.Known.{cache_place, is_first, is_stopped, names_data, rises}
 use Rattle.scen_text.proofs.GoodKept.{PlanOf, stop_fits, stops_fit, steps_of, started_of, started_at}
 use Rattle.scen_text.proofs.Cuts.{place_some_of}
 use Rattle.scen_text.proofs.GoodLists.{pushed_all, pushed_moment, pushed_count, none_of}
@@ -35,8 +35,8 @@ stops-pushed caches before (p ∷ plan) x h s =
     (let e : (before ++ p.step ∷ []) ++ steps_of plan ≡ before ++ (p.step ∷ steps_of plan) = append_assoc before (p.step ∷ []) (steps_of plan) in
     rw e s))
 
-starts-kept : (n : ℕ) (plan : List PlanStep) (x : PlanStep) → list_any (starts n) (steps_of plan) ≡ true → list_any (starts n) (steps_of (plan ++ x ∷ [])) ≡ true
-starts-kept n plan x h = rw (steps-pushed plan x, list_any-append (starts n) (steps_of plan) (x.step ∷ [])) (or_left (list_any (starts n) (steps_of plan)) _ h)
+starts-kept : (n : ℕ) (plan : List PlanStep) (x : PlanStep) → list_any (starts_cache n) (steps_of plan) ≡ true → list_any (starts_cache n) (steps_of (plan ++ x ∷ [])) ≡ true
+starts-kept n plan x h = rw (steps-pushed plan x, list_any-append (starts_cache n) (steps_of plan) (x.step ∷ [])) (or_left (list_any (starts_cache n) (steps_of plan)) _ h)
 
 started-pushed : (plan : List PlanStep) (x : PlanStep) → started_of (plan ++ x ∷ []) ≡ started_of plan ++ started_of (x ∷ [])
 started-pushed plan x = filter_map-append (λ planned. starting planned.step) plan (x ∷ [])
@@ -90,7 +90,7 @@ grown a false true s t f h =
 
 stop_kept : (caches : List Cache) (c : Cache) (before : List Step) (s : Step) → stop_fits caches before s ≡ true → stop_fits (caches ++ c ∷ []) before s ≡ true
 stop_kept caches c before (step.Stop n) h =
-    grown (not (n == 0)) (line_at caches n) (line_at (caches ++ c ∷ []) n) (list_any (starts n) before) (not (list_any (stops n) before)) (line_kept caches c n) h
+    grown (not (n == 0)) (line_at caches n) (line_at (caches ++ c ∷ []) n) (list_any (starts_cache n) before) (not (list_any (stops n) before)) (line_kept caches c n) h
 stop_kept caches c before (step.Join m) h = refl
 stop_kept caches c before (step.Lose m) h = refl
 stop_kept caches c before (step.Hold m n) h = refl
@@ -126,9 +126,9 @@ plan-started named caches c plan moment h few within rising late plain =
       numbers = rw (numbers, firsts) (pushed_count _ (started_of plan) (length caches) h.numbers h.total);
       counted = rw (numbers, lasts) (omega (arith, length-append (filter is_started caches) (c ∷ []), length-append (started_of plan) (length caches ∷ []), h.counted));
       total = rw (numbers, firsts) (omega (arith, length-append caches (c ∷ []), length-append (started_of plan) (length caches ∷ []), h.total));
-      begun = λ n at. elim (at_pushed caches c n at) as (λ r. list_any (starts n) (steps_of (plan ++ x ∷ [])) ≡ true) [
+      begun = λ n at. elim (at_pushed caches c n at) as (λ r. list_any (starts_cache n) (steps_of (plan ++ x ∷ [])) ≡ true) [
         | inl s ↦ starts-kept n plan x (h.begun n s)
-        | inr e ↦ rw (e, steps-pushed plan x, list_any-append (starts (length caches)) (steps_of plan) (x.step ∷ []), same_number (length caches)) (right_true (list_any (starts (length caches)) (steps_of plan)))
+        | inr e ↦ rw (e, steps-pushed plan x, list_any-append (starts_cache (length caches)) (steps_of plan) (x.step ∷ []), same_number (length caches)) (right_true (list_any (starts_cache (length caches)) (steps_of plan)))
       ];
     }
   where
@@ -179,7 +179,7 @@ stop-can named caches plan name n h plain later e new =
     let fresh : list_any (stops n) (steps_of plan) ≡ false = rw (is_stopped-steps plan n) at new in
     let ones : (at.cache.«data» && bytes_eq at.cache.name name) ≡ false = none_at (λ c. c.«data» && bytes_eq c.name name) caches n at.cache plain at.there in
     let no_data : at.cache.«data» ≡ false = left_false at.cache.«data» (bytes_eq at.cache.name name) at.passes ones in
-    rw (zero, fresh) (either (line_at caches n) (list_any (starts n) (steps_of plan)) at.cache.first
+    rw (zero, fresh) (either (line_at caches n) (list_any (starts_cache n) (steps_of plan)) at.cache.first
     (λ f. let a = at.there in rw (a, f, no_data) refl)
     (λ f. h.begun n (let a = at.there in rw (a, f, no_data) refl)))
   where

@@ -6,7 +6,7 @@ use Rattle.std.proofs.lemmas.Bool.{and_parts, and_from, or_left, or_right, eqb-t
 use Rattle.std.proofs.lemmas.List.Folds.{list_any-append}
 use Rattle.std.proofs.lemmas.List.Elements.{filter_map-append}
 use Rattle.std.proofs.lemmas.Slice.Eq.{bytes_eq-Decides}
-use Rattle.ignite_types.specs.Good.{is_text, is_name, good_key, good_object, good_value, good_command, good_item, good_blocks, is_plain, open_behind, object_of, good_kinds, agrees, ObjectKind}
+use Rattle.ignite_types.specs.Good.{ObjectKind, agree_in_kind, good_blocks, good_command, good_item, good_key, good_kinds, good_object, good_value, is_name, is_plain, is_text, object_of, open_behind}
 use Rattle.ignite_types.specs.Good as good
 use Rattle.ignite_types.specs.declared.names.NodeId.{NodeId}
 use Rattle.ignite_types.specs.declared.text.Key.{Key}
@@ -23,9 +23,9 @@ use Rattle.scen_text.specs.declared.line.Verb.{Verb}
 use Rattle.scen_text.specs.declared.line.Verb.TheVariants as verb
 use Rattle.scen_text.specs.declared.place.Place.{Place}
 use Rattle.scen_text.specs.declared.place.Place.TheVariants as place
-use Rattle.scen_text.specs.Known.{same_object, same_kind, is_other, has_object}
+use Rattle.scen_text.specs.Known.{has_object, is_other, same_object, same_object_kind}
 use Rattle.scen_text.specs.Limits.{bare_fits, kind_of, keyed}
-use Rattle.scen_text.specs.Places.{rank, in_script, is_start, place_after}
+use Rattle.scen_text.specs.Places.{in_script, is_start_place, place_after, rank}
 use Rattle.scen_text.proofs.GoodKept.{open_after, is_block, kind_seen, in_table, objects_in, ObjectsOf, good_script}
 use Rattle.scen_text.proofs.GoodLines.{GoodValue, is_bare}
 use Rattle.scen_text.proofs.GoodLists.{pushed_all, none_of}
@@ -43,7 +43,7 @@ script_rank place.Script h = refl
 script_rank place.Block h = refl
 script_rank _ h = cc
 
-pub script_started : (p : Place) → in_script p ≡ true → is_start p ≡ false
+pub script_started : (p : Place) → in_script p ≡ true → is_start_place p ≡ false
 script_started place.Script h = refl
 script_started place.Block h = refl
 script_started _ h = cc
@@ -167,7 +167,7 @@ same_trans a b c h g =
 same_self : (a : Key) → same_object a a ≡ true
 same_self a = and_from (a.cache == a.cache) (bytes_eq a.text a.text) (eq-eqb a.cache a.cache refl) ((bytes_eq-Decides a.text a.text).1 refl)
 
-kinds_meet : (a b : Kind) (o : ObjectKind) → good.same_kind (kind_seen a) o ≡ true → same_kind a b ≡ true → good.same_kind o (kind_seen b) ≡ true
+kinds_meet : (a b : Kind) (o : ObjectKind) → good.same_kind (kind_seen a) o ≡ true → same_object_kind a b ≡ true → good.same_kind o (kind_seen b) ≡ true
 kinds_meet kind.Long kind.Long good.Long h g = refl
 kinds_meet kind.Sequence kind.Sequence good.Sequence h g = refl
 kinds_meet kind.Queue kind.Queue good.Queue h g = refl
@@ -184,7 +184,7 @@ kinds_meet kind.Sequence kind.Queue o h g = cc
 kinds_meet kind.Queue kind.Long o h g = cc
 kinds_meet kind.Queue kind.Sequence o h g = cc
 
-kind_self : (a b : Kind) → same_kind a b ≡ true → good.same_kind (kind_seen a) (kind_seen b) ≡ true
+kind_self : (a b : Kind) → same_object_kind a b ≡ true → good.same_kind (kind_seen a) (kind_seen b) ≡ true
 kind_self kind.Long kind.Long h = refl
 kind_self kind.Sequence kind.Sequence h = refl
 kind_self kind.Queue kind.Queue h = refl
@@ -214,38 +214,38 @@ unless true b f = f refl
 unless false b f = refl
 
 -- an object of the table is of the kind that the table has
-agrees_with : (objects : List (Key × Kind)) (k : Key) (kd : Kind) (o : Key × ObjectKind) → is_other objects k kd ≡ false → in_table objects o ≡ true → agrees o (k, kind_seen kd) ≡ true
+agrees_with : (objects : List (Key × Kind)) (k : Key) (kd : Kind) (o : Key × ObjectKind) → is_other objects k kd ≡ false → in_table objects o ≡ true → agree_in_kind o (k, kind_seen kd) ≡ true
 agrees_with [] k kd o h t = cc
 agrees_with (known ∷ objects) k kd o h t =
-    let none = none_of (same_object known.0 k && not (same_kind known.1 kd)) (is_other objects k kd) h in
+    let none = none_of (same_object known.0 k && not (same_object_kind known.1 kd)) (is_other objects k kd) h in
     or_cases (same_object known.0 o.0 && good.same_kind (kind_seen known.1) o.1) (in_table objects o) t
     (λ here. let both = and_parts (same_object known.0 o.0) (good.same_kind (kind_seen known.1) o.1) here in
     unless (same_object o.0 k) (good.same_kind o.1 (kind_seen kd))
-    (λ same. kinds_meet known.1 kd o.1 both.1 (not_both (same_object known.0 k) (same_kind known.1 kd) none.0 (same_trans known.0 o.0 k both.0 same))))
+    (λ same. kinds_meet known.1 kd o.1 both.1 (not_both (same_object known.0 k) (same_object_kind known.1 kd) none.0 (same_trans known.0 o.0 k both.0 same))))
     (λ there. agrees_with objects k kd o none.1 there)
 
 all_agree : (objects : List (Key × Kind)) (k : Key) (kd : Kind) (os : List (Key × ObjectKind)) → is_other objects k kd ≡ false → list_all (in_table objects) os ≡ true
-    → list_all (λ o. agrees o (k, kind_seen kd)) os ≡ true
+    → list_all (λ o. agree_in_kind o (k, kind_seen kd)) os ≡ true
 all_agree objects k kd [] h t = refl
 all_agree objects k kd (o ∷ os) h t =
     let parts = and_parts (in_table objects o) (list_all (in_table objects) os) t in
-    and_from (agrees o (k, kind_seen kd)) (list_all (λ p. agrees p (k, kind_seen kd)) os) (agrees_with objects k kd o h parts.0) (all_agree objects k kd os h parts.1)
+    and_from (agree_in_kind o (k, kind_seen kd)) (list_all (λ p. agree_in_kind p (k, kind_seen kd)) os) (agrees_with objects k kd o h parts.0) (all_agree objects k kd os h parts.1)
 
-kinds-pushed : (os : List (Key × ObjectKind)) (x : Key × ObjectKind) → good_kinds os ≡ true → list_all (λ o. agrees o x) os ≡ true → good_kinds (os ++ x ∷ []) ≡ true
+kinds-pushed : (os : List (Key × ObjectKind)) (x : Key × ObjectKind) → good_kinds os ≡ true → list_all (λ o. agree_in_kind o x) os ≡ true → good_kinds (os ++ x ∷ []) ≡ true
 kinds-pushed [] x h a = refl
 kinds-pushed (o ∷ os) x h a =
-    let parts = and_parts (list_all (agrees o) os) (good_kinds os) h in
-    let now = and_parts (agrees o x) (list_all (λ p. agrees p x) os) a in
-    and_from (list_all (agrees o) (os ++ x ∷ [])) (good_kinds (os ++ x ∷ [])) (pushed_all (agrees o) os x parts.0 now.0) (kinds-pushed os x parts.1 now.1)
+    let parts = and_parts (list_all (agree_in_kind o) os) (good_kinds os) h in
+    let now = and_parts (agree_in_kind o x) (list_all (λ p. agree_in_kind p x) os) a in
+    and_from (list_all (agree_in_kind o) (os ++ x ∷ [])) (good_kinds (os ++ x ∷ [])) (pushed_all (agree_in_kind o) os x parts.0 now.0) (kinds-pushed os x parts.1 now.1)
 
 -- the table has the object, with its kind
 has_kind : (objects : List (Key × Kind)) (k : Key) (kd : Kind) → is_other objects k kd ≡ false → has_object objects k ≡ true → in_table objects (k, kind_seen kd) ≡ true
 has_kind [] k kd h t = cc
 has_kind (known ∷ objects) k kd h t =
-    let none = none_of (same_object known.0 k && not (same_kind known.1 kd)) (is_other objects k kd) h in
+    let none = none_of (same_object known.0 k && not (same_object_kind known.1 kd)) (is_other objects k kd) h in
     or_cases (same_object known.0 k) (has_object objects k) t
     (λ here. or_left (same_object known.0 k && good.same_kind (kind_seen known.1) (kind_seen kd)) _
-    (and_from (same_object known.0 k) (good.same_kind (kind_seen known.1) (kind_seen kd)) here (kind_self known.1 kd (not_both (same_object known.0 k) (same_kind known.1 kd) none.0 here))))
+    (and_from (same_object known.0 k) (good.same_kind (kind_seen known.1) (kind_seen kd)) here (kind_self known.1 kd (not_both (same_object known.0 k) (same_object_kind known.1 kd) none.0 here))))
     (λ there. or_right (same_object known.0 k && good.same_kind (kind_seen known.1) (kind_seen kd)) (in_table objects (k, kind_seen kd)) (has_kind objects k kd none.1 there))
 
 table_kept : (objects : List (Key × Kind)) (entry : Key × Kind) (os : List (Key × ObjectKind)) → list_all (in_table objects) os ≡ true → list_all (in_table (objects ++ entry ∷ [])) os ≡ true

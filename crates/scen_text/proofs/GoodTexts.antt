@@ -5,7 +5,7 @@ use Rattle.std.specs.Option.{unwrap_or}
 use Rattle.std.specs.List.{list_all}
 use Rattle.std.proofs.lemmas.Bool.{cond_both, and_parts, and_from, or_left, or_right, eq-eqb, le-leb}
 use Rattle.std.proofs.lemmas.List.Folds.{list_any-append}
-use Rattle.ignite_types.specs.Good.{is_name, good_format, good_caches, good_nodes, good_plan, good_sessions, good_session, good_item, good_blocks, good_step, good_steps, good_starts, good_kinds, object_of, good, members, has_member}
+use Rattle.ignite_types.specs.Good.{good, good_blocks, good_caches, good_format, good_item, good_kinds, good_nodes, good_plan, good_session, good_sessions, good_starts, good_step, good_steps, has_member, is_name, members, object_of}
 use Rattle.ignite_types.specs.declared.names.NodeId.{NodeId}
 use Rattle.ignite_types.specs.declared.text.Key.{Key}
 use Rattle.ignite_types.specs.declared.scenario.Cache.{Cache}
@@ -29,10 +29,10 @@ use Rattle.scen_text.specs.declared.line.Line.TheVariants as line
 use Rattle.scen_text.specs.declared.place.Place.{Place}
 use Rattle.scen_text.specs.declared.place.Place.TheVariants as place
 use Rattle.scen_text.specs.Causes.{◌>>=◌, Refusal, Reads, fit}
-use Rattle.scen_text.specs.Drafts.{empty, nodes_named, with_object, has_room, verb_stands, with_keyed, stepped, line_taken, is_whole, finished}
-use Rattle.scen_text.specs.Known.{is_named, has_server, has_line, has_object, place_of_key, known, in_cache}
+use Rattle.scen_text.specs.Drafts.{draft_after_line, empty, finished, has_room, is_whole_draft, line_taken, nodes_named, verb_stands, with_keyed, with_object}
+use Rattle.scen_text.specs.Known.{has_line, has_object, has_server, is_named, key_in_cache, known_cache, place_of_key}
 use Rattle.scen_text.specs.Limits.{default_settings, kind_of, keyed}
-use Rattle.scen_text.specs.Meaning.{line_of}
+use Rattle.scen_text.specs.Meaning.{line_meant}
 use Rattle.scen_text.specs.Places as places
 use Rattle.scen_text.specs.Places.{in_script}
 use Rattle.scen_text.specs.Reading.{named_by, named_in, at_line, and_then, read_lines, read_text}
@@ -97,7 +97,7 @@ all-good named caches all (s ∷ sessions) f h =
     let parts = and_parts (good_script named caches s) (list_all (good_script named caches) sessions) h in
     and_from (good_session caches all s) (list_all (good_session caches all) sessions) (session-good named caches all s f parts.0) (all-good named caches all sessions f parts.1)
 
-whole_place : (p : Place) → places.is_whole p ≡ true → in_script p ≡ false
+whole_place : (p : Place) → places.is_outside_session p ≡ true → in_script p ≡ false
 whole_place place.Script h = cc
 whole_place place.Block h = cc
 whole_place _ h = refl
@@ -112,10 +112,10 @@ last_objects sessions s none h =
     append-nil (flat_map (λ (session : Session). session.commands) sessions) in
     rw all at (rw none at h)
 
-whole-good : (d : Draft) → Kept d → is_whole d ≡ true → ((n : NodeId) → is_named d.named n ≡ true → has_member d.members n ≡ true) → good (scenario d) ≡ true
+whole-good : (d : Draft) → Kept d → is_whole_draft d ≡ true → ((n : NodeId) → is_named d.named n ≡ true → has_member d.members n ≡ true) → good (scenario d) ≡ true
 whole-good d h w f =
-    let outer = and_parts (places.is_whole d.place && has_server d.nodes) (has_line d.caches) w in
-    let inner = and_parts (places.is_whole d.place) (has_server d.nodes) outer.0 in
+    let outer = and_parts (places.is_outside_session d.place && has_server d.nodes) (has_line d.caches) w in
+    let inner = and_parts (places.is_outside_session d.place) (has_server d.nodes) outer.0 in
     let caches = caches-good d h.caches outer.1 in
     let whole : members (scenario d) ≡ d.members = sym h.nodes.whole in
     let fits : (n : NodeId) → is_named d.named n ≡ true → has_member (members (scenario d)) n ≡ true = λ n e. rw whole (f n e) in
@@ -161,11 +161,11 @@ object_adds d key (Some kind) =
 keyed_adds : (d : Draft) (v : Verb) (key : KeyWords) → Holds (Adds d []) (with_keyed d v key)
 keyed_adds d v key = rule_then (Adds d []) (verb_stands d (kind_of v) (place_of_key d.caches key) key) Syntax _ (λ st.
     any_then (Adds d []) (fit key.cache what.Name) _ (λ name. any_then (Adds d []) (fit key.key what.Key) _ (λ text.
-    any_then (Adds d []) (keyed v (in_cache (unwrap_or (place_of_key d.caches key) 0) text)) _ (λ x. rule_then (Adds d []) (has_room d) _ _ (λ room.
-    any_then (Adds d []) (known (place_of_key d.caches key)) _ (λ n.
-    let same = object_adds d (in_cache (unwrap_or (place_of_key d.caches key) 0) text) (kind_of v) in unchanged d _ same.0 same.1))))))
+    any_then (Adds d []) (keyed v (key_in_cache (unwrap_or (place_of_key d.caches key) 0) text)) _ (λ x. rule_then (Adds d []) (has_room d) _ _ (λ room.
+    any_then (Adds d []) (known_cache (place_of_key d.caches key)) _ (λ n.
+    let same = object_adds d (key_in_cache (unwrap_or (place_of_key d.caches key) 0) text) (kind_of v) in unchanged d _ same.0 same.1))))))
 
-step_adds : (d : Draft) (l : Line) → Holds (Adds d (named_by (Ok l))) (stepped d l)
+step_adds : (d : Draft) (l : Line) → Holds (Adds d (named_by (Ok l))) (draft_after_line d l)
 step_adds d line.Blank = unchanged d d refl refl
 step_adds d (line.Head format) = search (rule_then, unchanged) depth 10
 step_adds d (line.Setting s n) = search (rule_then, unchanged) depth 10
@@ -180,12 +180,12 @@ step_adds d (line.Bare c) = search (rule_then, unchanged) depth 12
 step_adds d (line.Keyed v key) = keyed_adds d v key
 step_adds d line.End = search (rule_then, unchanged) depth 8
 
-taken_adds : (d : Draft) (r : Result Line Cause) → Holds (Adds d (named_by r)) (r >>= λ l. stepped d l)
+taken_adds : (d : Draft) (r : Result Line Cause) → Holds (Adds d (named_by r)) (r >>= λ l. draft_after_line d l)
 taken_adds d (Ok l) = step_adds d l
 taken_adds d (Err e) = tt
 
-line_adds : (d : Draft) (bytes : List ℕ) → Holds (Adds d (named_by (line_of 1 bytes))) (line_taken d bytes)
-line_adds d bytes = rw (same_names 1 d.format bytes) (taken_adds d (line_of d.format bytes))
+line_adds : (d : Draft) (bytes : List ℕ) → Holds (Adds d (named_by (line_meant 1 bytes))) (line_taken d bytes)
+line_adds d bytes = rw (same_names 1 d.format bytes) (taken_adds d (line_meant d.format bytes))
 
 -- the whole text
 
@@ -198,14 +198,14 @@ or_elim true b h f g = f refl
 or_elim false b h f g = g h
 
 named-append : (xs ys : List NodeId) (n : NodeId) → is_named (xs ++ ys) n ≡ (is_named xs n || is_named ys n)
-named-append xs ys n = list_any-append (λ known. known.0 == n.0) xs ys
+named-append xs ys n = list_any-append (λ known_cache. known_cache.0 == n.0) xs ys
 
-met_next : (d e : Draft) (bytes : List ℕ) (rest : List (List ℕ)) → Adds d (named_by (line_of 1 bytes)) e → Met d (bytes ∷ rest) → Met e rest
+met_next : (d e : Draft) (bytes : List ℕ) (rest : List (List ℕ)) → Adds d (named_by (line_meant 1 bytes)) e → Met d (bytes ∷ rest) → Met e rest
 met_next d e bytes rest a m n h =
     let before : is_named d.named n ≡ true = (let same = a.same in rw same at h) in
-    or_elim (has_member d.members n) (is_named (named_by (line_of 1 bytes) ++ named_in rest) n) (m n before)
+    or_elim (has_member d.members n) (is_named (named_by (line_meant 1 bytes) ++ named_in rest) n) (m n before)
     (λ old. or_left (has_member e.members n) _ (a.old n old))
-    (λ named. or_elim (is_named (named_by (line_of 1 bytes)) n) (is_named (named_in rest) n) (rw (named-append (named_by (line_of 1 bytes)) (named_in rest) n) at named)
+    (λ named. or_elim (is_named (named_by (line_meant 1 bytes)) n) (is_named (named_in rest) n) (rw (named-append (named_by (line_meant 1 bytes)) (named_in rest) n) at named)
     (λ here. or_left (has_member e.members n) _ (a.new n here))
     (λ later. or_right (has_member e.members n) (is_named (named_in rest) n) later))
 
@@ -213,7 +213,7 @@ abbrev Good : Scenario → Type 0
 Good s = good s ≡ true
 
 finished-good : (n : ℕ) (d : Draft) → Kept d → Met d [] → Holds Good (at_line n (finished d))
-finished-good n d h m = pass (finished d) (rule_then Good (is_whole d) Missing _ (λ w. whole-good d h w (λ node e. no_more (m node e))))
+finished-good n d h m = pass (finished d) (rule_then Good (is_whole_draft d) Missing _ (λ w. whole-good d h w (λ node e. no_more (m node e))))
   where
     pass : (r : Result Scenario Cause) → Holds Good r → Holds Good (at_line n r)
     pass (Ok s) g = g
@@ -226,7 +226,7 @@ lines-good : (n : ℕ) (d : Draft) (text : List (List ℕ)) → Kept d → Met d
 lines-good n d [] h m = finished-good n d h m
 lines-good n d (bytes ∷ rest) h m = next (line_taken d bytes) (line-kept d bytes h) (line_adds d bytes) (λ e k f. lines-good (n + 1) e rest k f)
   where
-    next : (r : Result Draft Cause) → Holds Kept r → Holds (Adds d (named_by (line_of 1 bytes))) r
+    next : (r : Result Draft Cause) → Holds Kept r → Holds (Adds d (named_by (line_meant 1 bytes))) r
         → ((e : Draft) → Kept e → Met e rest → Holds Good (read_lines (n + 1) e rest)) → Holds Good (and_then (at_line n r) (λ e. read_lines (n + 1) e rest))
     next (Ok e) k a go = go e k (met_next d e bytes rest a m)
     next (Err cause) k a go = tt

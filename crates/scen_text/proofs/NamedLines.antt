@@ -16,10 +16,10 @@ use Rattle.scen_text.specs.declared.line.Verb.{Verb}
 use Rattle.scen_text.specs.Causes.{◌>>=◌}
 use Rattle.scen_text.specs.Forms.{cache_words, key_words, object_words}
 use Rattle.scen_text.specs.Keywords.{shared_keyword, command_keyword, first_keyword, second_keyword, or_else, step_keyword}
-use Rattle.scen_text.specs.Meaning.{setting_line, cache_line, begin_line, bare_line, key_line, key_value_line, key_integer_line, object_line, object_value_line, object_integer_line, meant, known, meaning, is_remark, line_of}
+use Rattle.scen_text.specs.Meaning.{bare_line, begin_line, cache_line, is_remark, key_integer_line, key_line, key_value_line, known_line, line_meant, meaning, meant, object_integer_line, object_line, object_value_line, setting_line}
 use Rattle.scen_text.specs.Plans.{start_step, stop_step, step_or_syntax, plan_line}
 use Rattle.scen_text.specs.Reading.{named_by}
-use Rattle.scen_text.specs.Words.{words, only_word, two_words, number, name, value, integer}
+use Rattle.scen_text.specs.Words.{integer, name, number_of_word, only_word, two_words, value_of_word, words}
 use Rattle.scen_text.proofs.Holds.{Holds, any_then}
 
 -- the line names no node
@@ -52,7 +52,7 @@ silent-key : (f : ℕ) (v : Verb) (rest : List (List ℕ)) → Holds Silent (key
 silent-key f v rest = any_then Silent (only_word rest) _ (λ w. any_then Silent (key_words f w) _ (λ k. refl))
 
 silent-put : (f : ℕ) (rest : List (List ℕ)) → Holds Silent (key_value_line f rest)
-silent-put f rest = any_then Silent (two_words rest) _ (λ w. any_then Silent (key_words f w.0) _ (λ k. any_then Silent (value w.1) _ (λ v. refl)))
+silent-put f rest = any_then Silent (two_words rest) _ (λ w. any_then Silent (key_words f w.0) _ (λ k. any_then Silent (value_of_word w.1) _ (λ v. refl)))
 
 silent-add : (f : ℕ) (rest : List (List ℕ)) → Holds Silent (key_integer_line f rest)
 silent-add f rest = any_then Silent (two_words rest) _ (λ w. any_then Silent (key_words f w.0) _ (λ k. any_then Silent (integer w.1) _ (λ v. refl)))
@@ -61,13 +61,13 @@ silent-object : (v : Verb) (rest : List (List ℕ)) → Holds Silent (object_lin
 silent-object v rest = any_then Silent (only_word rest) _ (λ w. any_then Silent (object_words w) _ (λ k. refl))
 
 silent-offer : (rest : List (List ℕ)) → Holds Silent (object_value_line rest)
-silent-offer rest = any_then Silent (two_words rest) _ (λ w. any_then Silent (object_words w.0) _ (λ k. any_then Silent (value w.1) _ (λ v. refl)))
+silent-offer rest = any_then Silent (two_words rest) _ (λ w. any_then Silent (object_words w.0) _ (λ k. any_then Silent (value_of_word w.1) _ (λ v. refl)))
 
 silent-incr : (rest : List (List ℕ)) → Holds Silent (object_integer_line rest)
 silent-incr rest = any_then Silent (two_words rest) _ (λ w. any_then Silent (object_words w.0) _ (λ k. any_then Silent (integer w.1) _ (λ v. refl)))
 
 silent-setting : (s : _) (rest : List (List ℕ)) → Holds Silent (setting_line s rest)
-silent-setting s rest = any_then Silent (only_word rest) _ (λ w. any_then Silent (number w) _ (λ n. refl))
+silent-setting s rest = any_then Silent (only_word rest) _ (λ w. any_then Silent (number_of_word w) _ (λ n. refl))
 
 -- the same command of both formats
 same_meant : (f g : ℕ) (k : Keyword) (rest : List (List ℕ)) → named_by (plan_line f rest) ≡ named_by (plan_line g rest) → named_by (meant f k rest) ≡ named_by (meant g k rest)
@@ -80,7 +80,7 @@ same_meant f g _ rest p = refl
 
 -- the words of one format alone name no node
 abbrev Quiet : ℕ → List (List ℕ) → Option Keyword → Type 0
-Quiet f rest o = named_by (known f o rest) ≡ []
+Quiet f rest o = named_by (known_line f o rest) ≡ []
 
 quiet-first : (f : ℕ) (word : List ℕ) (rest : List (List ℕ)) → Quiet f rest (first_keyword word)
 quiet-first f word rest =
@@ -101,7 +101,7 @@ quiet-own : (f : ℕ) (word : List ℕ) (rest : List (List ℕ)) → Quiet f res
 quiet-own f word rest = cond_both (f == 2) (second_keyword word) (first_keyword word) (Quiet f rest) (λ e. quiet-second f word rest) (λ e. quiet-first f word rest)
 
 same_known : (f g : ℕ) (shared own more : Option Keyword) (rest : List (List ℕ)) → named_by (plan_line f rest) ≡ named_by (plan_line g rest)
-    → named_by (known f own rest) ≡ named_by (known g more rest) → named_by (known f (or_else shared own) rest) ≡ named_by (known g (or_else shared more) rest)
+    → named_by (known_line f own rest) ≡ named_by (known_line g more rest) → named_by (known_line f (or_else shared own) rest) ≡ named_by (known_line g (or_else shared more) rest)
 same_known f g (Some k) own more rest p h = same_meant f g k rest p
 same_known f g None own more rest p h = h
 
@@ -129,7 +129,7 @@ same_plan : (f g : ℕ) (rest : List (List ℕ)) → named_by (plan_line f rest)
 same_plan f g [] = refl
 same_plan f g (first ∷ []) = refl
 same_plan f g (first ∷ second ∷ rest) =
-    same_then (number first) (λ moment. step_or_syntax moment (step_keyword f second) rest) (λ moment. step_or_syntax moment (step_keyword g second) rest)
+    same_then (number_of_word first) (λ moment. step_or_syntax moment (step_keyword f second) rest) (λ moment. step_or_syntax moment (step_keyword g second) rest)
     (λ moment. same_step moment rest (bytes_eq second (codes "join")) (bytes_eq second (codes "lose")) (bytes_eq second (codes "hold")) (bytes_eq second (codes "release")) _ _
     (quiet-step moment rest ((f == 2) && bytes_eq second (codes "start")) ((f == 2) && bytes_eq second (codes "stop"))
     ∙ sym (quiet-step moment rest ((g == 2) && bytes_eq second (codes "start")) ((g == 2) && bytes_eq second (codes "stop")))))
@@ -148,5 +148,5 @@ pick true b x y h = refl
 pick false true x y h = refl
 pick false false x y h = h
 
-pub same_names : (f g : ℕ) (bytes : List ℕ) → named_by (line_of f bytes) ≡ named_by (line_of g bytes)
+pub same_names : (f g : ℕ) (bytes : List ℕ) → named_by (line_meant f bytes) ≡ named_by (line_meant g bytes)
 same_names f g bytes = pick (not (is_utf8 bytes)) (is_remark bytes) _ _ (same_meaning f g (words bytes))

@@ -8,7 +8,7 @@ use Rattle.ignite_types.specs.Names.{same_key}
 use Rattle.ignite_types.specs.declared.text.Key.{Key}
 use Rattle.indexmap.specs.IndexMap.{insert_entry}
 use Rattle.scen_text.specs.declared.limits.Kind.{Kind}
-use Rattle.scen_text.specs.Known.{same_kind, is_other, has_object}
+use Rattle.scen_text.specs.Known.{has_object, is_other, same_object_kind}
 
 pub same_key_equiv : IsEquivalence same_key
 same_key_equiv = and_equiv (on_equiv (λ (k : Key). k.cache) nat_eq_equiv) (on_equiv (λ (k : Key). k.text) nat_list_eq_equiv)
@@ -71,5 +71,5 @@ added_last objects object kind new =
 
 -- an object is known to be of another kind where the kind that is found is another
 pub other_kind : (objects : List (Key × Kind)) (object : Key) (kind : Kind) → IsDistinct same_key (keys_of objects)
-    → is_other objects object kind ≡ passes (λ known. not (same_kind known kind)) (lookup (same_key object) objects)
-other_kind objects object kind distinct = any_passing same_key same_key_equiv objects object (λ known. not (same_kind known kind)) distinct
+    → is_other objects object kind ≡ passes (λ known. not (same_object_kind known kind)) (lookup (same_key object) objects)
+other_kind objects object kind distinct = any_passing same_key same_key_equiv objects object (λ known. not (same_object_kind known kind)) distinct

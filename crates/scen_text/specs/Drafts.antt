@@ -2,7 +2,7 @@
 -- in which they stand here.
 use Rattle.std.specs.Prelude.{ℕ, ◌+◌, Bool, true, false, ◌&&◌, not, ◌==◌, nat_lt, nat_le, List, [], ◌∷◌, ◌++◌, length, Option, Some, None, Result, Ok, Err, if◌then◌else◌}
 use Rattle.std.specs.Option.{unwrap_or}
-use Rattle.ignite_types.specs.Good.{is_within, has_member}
+use Rattle.ignite_types.specs.Good.{has_member, is_within}
 use Rattle.ignite_types.specs.declared.names.NodeId.{NodeId}
 use Rattle.ignite_types.specs.declared.text.Key.{Key}
 use Rattle.ignite_types.specs.declared.scenario.Command.{Command}
@@ -26,11 +26,11 @@ use Rattle.scen_text.specs.declared.line.Setting.{Setting}
 use Rattle.scen_text.specs.declared.line.Verb.{Verb}
 use Rattle.scen_text.specs.declared.place.Place.TheVariants as place
 use Rattle.scen_text.specs.Causes.{◌>>=◌, rule, fit}
-use Rattle.scen_text.specs.Known.{has_cache, has_object, is_named, has_session, is_stopped, names_data_here, names_plain_here, names_first, place_named, place_of_key, known, in_cache, agrees, rises, has_server, has_line, cache_line_place, cache_what, member_what}
+use Rattle.scen_text.specs.Known.{agrees_with_known, cache_line_place, cache_what, has_cache, has_line, has_object, has_server, has_session, is_named, is_stopped, key_in_cache, known_cache, member_what, names_data_here, names_first, names_plain_here, place_named, place_of_key, rises}
 use Rattle.scen_text.specs.Limits.{default_settings, set, setting_fits, setting_what, default_cache, cache_of, nodes_fit, bare_fits, bare_what, kind_of, keyed}
-use Rattle.scen_text.specs.Meaning.{line_of}
+use Rattle.scen_text.specs.Meaning.{line_meant}
 use Rattle.scen_text.specs.Places as places
-use Rattle.scen_text.specs.Places.{stands, stands_once, in_script, is_outside, is_start, place_after, place_of}
+use Rattle.scen_text.specs.Places.{in_script, is_outside, is_start_place, may_follow, place_after, place_of_setting, stands_once}
 
 abbrev pub no_session : Session
 no_session = record { name = []; node = record { 0 = 0 }; commands = [] }
@@ -55,7 +55,7 @@ empty named = record {
 -- the line of the format, which is the first
 abbrev pub with_head : Draft → ℕ → Result Draft Cause
 with_head draft format = do
-  _ ← rule (is_start draft.place) Syntax
+  _ ← rule (is_start_place draft.place) Syntax
   Ok (record draft {
     place = place.Head;
     format = format;
@@ -65,10 +65,10 @@ with_head draft format = do
 -- a setting of format 1
 abbrev pub with_setting : Draft → Setting → ℕ → Result Draft Cause
 with_setting draft setting n = do
-  _ ← rule (stands_once draft.place (place_of setting)) Syntax
+  _ ← rule (stands_once draft.place (place_of_setting setting)) Syntax
   _ ← rule (setting_fits setting n) (Limit (setting_what setting))
   Ok (record draft {
-    place = place_of setting;
+    place = place_of_setting setting;
     settings = set draft.settings setting n;
     caches = default_cache (set draft.settings setting n) ∷ [];
   })
@@ -81,36 +81,36 @@ total_with draft parts =
 -- a cache, or a data cache
 abbrev pub with_cache : Draft → Bool → CacheWords → Result Draft Cause
 with_cache draft is_data words = do
-  _ ← rule (stands draft.place (cache_line_place is_data)) Syntax
+  _ ← rule (may_follow draft.place (cache_line_place is_data)) Syntax
   cache ← cache_of (cache_what is_data) true is_data words
   total ← total_with draft cache.parts
   _ ← rule (not (has_cache draft.caches cache.name)) DoubleName
   Ok (record draft { place = cache_line_place is_data; caches = draft.caches ++ cache ∷ []; partitions = total })
 
 -- a node
-abbrev pub with_member : Draft → Member → Result Draft Cause
-with_member draft member = do
-  _ ← rule (stands draft.place place.Nodes) Syntax
+abbrev pub draft_with_member : Draft → Member → Result Draft Cause
+draft_with_member draft member = do
+  _ ← rule (may_follow draft.place place.Nodes) Syntax
   _ ← rule (is_within 1 99 member.node.0) (Limit (member_what member.server))
   _ ← rule (nat_lt (length draft.members) 16) (Limit what.Nodes)
   _ ← rule (not (has_member draft.members member.node)) DoubleName
   Ok (record draft { place = place.Nodes; nodes = draft.nodes ++ member ∷ []; members = draft.members ++ member ∷ [] })
 
 -- one more step of the plan
-abbrev pub planned : Draft → ℕ → Step → Draft
-planned draft moment s = record draft { place = place.Plan; plan = draft.plan ++ record { moment = moment; step = s } ∷ [] }
+abbrev pub draft_with_step : Draft → ℕ → Step → Draft
+draft_with_step draft moment s = record draft { place = place.Plan; plan = draft.plan ++ record { moment = moment; step = s } ∷ [] }
 
 -- a step by which a node joins
 abbrev pub with_join : Draft → ℕ → Member → Result Draft Cause
 with_join draft moment member = do
-  _ ← rule (stands draft.place place.Plan) Syntax
+  _ ← rule (may_follow draft.place place.Plan) Syntax
   _ ← rule (is_within 1 1000000 moment) (Limit what.Moment)
   _ ← rule (is_within 1 99 member.node.0) (Limit what.Plan)
   _ ← rule (rises draft.plan moment) (Limit what.Moment)
   _ ← rule (nat_lt (length draft.members) 16) (Limit what.Nodes)
   _ ← rule (nat_lt (length draft.plan) 64) (Limit what.Steps)
   _ ← rule (not (has_member draft.members member.node)) DoubleName
-  Ok (planned (record draft { members = draft.members ++ member ∷ [] }) moment (step.Join member))
+  Ok (draft_with_step (record draft { members = draft.members ++ member ∷ [] }) moment (step.Join member))
 
 -- each node of a step is named by a line of the text
 abbrev pub nodes_named : List NodeId → Step → Bool
@@ -122,42 +122,42 @@ nodes_named named _ = true
 -- a step that loses a node, or holds or releases a link
 abbrev pub with_links : Draft → ℕ → Step → Result Draft Cause
 with_links draft moment s = do
-  _ ← rule (stands draft.place place.Plan) Syntax
+  _ ← rule (may_follow draft.place place.Plan) Syntax
   _ ← rule (is_within 1 1000000 moment) (Limit what.Moment)
   _ ← rule (nodes_fit s) (Limit what.Plan)
   _ ← rule (rises draft.plan moment) (Limit what.Moment)
   _ ← rule (nat_lt (length draft.plan) 64) (Limit what.Steps)
   _ ← rule (nodes_named draft.named s) NoSuchNode
-  Ok (planned draft moment s)
+  Ok (draft_with_step draft moment s)
 
 -- a step that starts a cache
 abbrev pub with_start : Draft → ℕ → CacheWords → Result Draft Cause
 with_start draft moment words = do
-  _ ← rule (stands draft.place place.Plan && not (names_data_here draft.caches words.name)) Syntax
+  _ ← rule (may_follow draft.place place.Plan && not (names_data_here draft.caches words.name)) Syntax
   _ ← rule (is_within 1 1000000 moment) (Limit what.Moment)
   cache ← cache_of what.Plan false false words
   _ ← rule (rises draft.plan moment) (Limit what.Moment)
   _ ← rule (nat_lt (length draft.plan) 64) (Limit what.Steps)
   total ← total_with draft cache.parts
   _ ← rule (not (has_cache draft.caches cache.name)) DoubleName
-  Ok (planned (record draft { caches = draft.caches ++ cache ∷ []; partitions = total }) moment (step.Start (length draft.caches)))
+  Ok (draft_with_step (record draft { caches = draft.caches ++ cache ∷ []; partitions = total }) moment (step.Start (length draft.caches)))
 
 -- a step that stops a cache
 abbrev pub with_stop : Draft → ℕ → Option (List ℕ) → Result Draft Cause
 with_stop draft moment name = do
-  _ ← rule (stands draft.place place.Plan && not (names_data_here draft.caches name) && not (names_first draft.caches name)) Syntax
+  _ ← rule (may_follow draft.place place.Plan && not (names_data_here draft.caches name) && not (names_first draft.caches name)) Syntax
   _ ← rule (is_within 1 1000000 moment) (Limit what.Moment)
   called ← fit name what.Name
   _ ← rule (rises draft.plan moment) (Limit what.Moment)
   _ ← rule (nat_lt (length draft.plan) 64) (Limit what.Steps)
-  number ← known (place_named draft.caches (Some called))
+  number ← known_cache (place_named draft.caches (Some called))
   _ ← rule (not (is_stopped draft.plan number)) DoubleName
-  Ok (planned draft moment (step.Stop number))
+  Ok (draft_with_step draft moment (step.Stop number))
 
 -- a session begins
 abbrev pub with_session : Draft → Option (List ℕ) → NodeId → Result Draft Cause
 with_session draft name node = do
-  _ ← rule (stands draft.place place.Sessions) Syntax
+  _ ← rule (may_follow draft.place place.Sessions) Syntax
   called ← fit name what.Name
   _ ← rule (is_within 1 99 node.0) (Limit what.Session)
   _ ← rule (nat_lt (length draft.sessions) 64) (Limit what.Sessions)
@@ -185,7 +185,7 @@ with_bare draft command = do
 -- names no data cache
 abbrev pub verb_stands : Draft → Option Kind → Option ℕ → KeyWords → Bool
 verb_stands draft (Some kind) place key =
-    is_outside draft.place && not (names_plain_here draft.caches key.cache) && agrees draft.objects place key.key kind
+    is_outside draft.place && not (names_plain_here draft.caches key.cache) && agrees_with_known draft.objects place key.key kind
 verb_stands draft None place key = in_script draft.place && not (names_data_here draft.caches key.cache)
 
 -- the first command that names an object says what it is
@@ -199,10 +199,10 @@ with_keyed draft verb key = do
   _ ← rule (verb_stands draft (kind_of verb) (place_of_key draft.caches key) key) Syntax
   _ ← fit key.cache what.Name
   text ← fit key.key what.Key
-  item ← keyed verb (in_cache (unwrap_or (place_of_key draft.caches key) 0) text)
+  item ← keyed verb (key_in_cache (unwrap_or (place_of_key draft.caches key) 0) text)
   _ ← rule (has_room draft) (Limit what.Commands)
-  _ ← known (place_of_key draft.caches key)
-  Ok (with_item (with_object draft (in_cache (unwrap_or (place_of_key draft.caches key) 0) text) (kind_of verb)) item)
+  _ ← known_cache (place_of_key draft.caches key)
+  Ok (with_item (with_object draft (key_in_cache (unwrap_or (place_of_key draft.caches key) 0) text) (kind_of verb)) item)
 
 -- a session ends
 abbrev pub with_end : Draft → Result Draft Cause
@@ -211,30 +211,30 @@ with_end draft = do
   Ok (record draft { place = place.Sessions; sessions = draft.sessions ++ draft.session ∷ []; session = no_session })
 
 -- what is read behind one more line
-abbrev pub stepped : Draft → Line → Result Draft Cause
-stepped draft line.Blank = Ok draft
-stepped draft (line.Head format) = with_head draft format
-stepped draft (line.Setting setting n) = with_setting draft setting n
-stepped draft (line.Cache is_data words) = with_cache draft is_data words
-stepped draft (line.Member member) = with_member draft member
-stepped draft (line.Join moment member) = with_join draft moment member
-stepped draft (line.Links moment s) = with_links draft moment s
-stepped draft (line.Start moment words) = with_start draft moment words
-stepped draft (line.Stop moment name) = with_stop draft moment name
-stepped draft (line.Session name node) = with_session draft name node
-stepped draft (line.Bare command) = with_bare draft command
-stepped draft (line.Keyed verb key) = with_keyed draft verb key
-stepped draft line.End = with_end draft
+abbrev pub draft_after_line : Draft → Line → Result Draft Cause
+draft_after_line draft line.Blank = Ok draft
+draft_after_line draft (line.Head format) = with_head draft format
+draft_after_line draft (line.Setting setting n) = with_setting draft setting n
+draft_after_line draft (line.Cache is_data words) = with_cache draft is_data words
+draft_after_line draft (line.Member member) = draft_with_member draft member
+draft_after_line draft (line.Join moment member) = with_join draft moment member
+draft_after_line draft (line.Links moment s) = with_links draft moment s
+draft_after_line draft (line.Start moment words) = with_start draft moment words
+draft_after_line draft (line.Stop moment name) = with_stop draft moment name
+draft_after_line draft (line.Session name node) = with_session draft name node
+draft_after_line draft (line.Bare command) = with_bare draft command
+draft_after_line draft (line.Keyed verb key) = with_keyed draft verb key
+draft_after_line draft line.End = with_end draft
 
 abbrev pub line_taken : Draft → List ℕ → Result Draft Cause
-line_taken draft bytes = line_of draft.format bytes >>= λ meant. stepped draft meant
+line_taken draft bytes = line_meant draft.format bytes >>= λ meant. draft_after_line draft meant
 
 -- nothing is missing: the first line, an `end`, a server, and a cache line, which format 1 needs not
-abbrev pub is_whole : Draft → Bool
-is_whole draft = places.is_whole draft.place && has_server draft.nodes && has_line draft.caches
+abbrev pub is_whole_draft : Draft → Bool
+is_whole_draft draft = places.is_outside_session draft.place && has_server draft.nodes && has_line draft.caches
 
 -- the scenario, where the text ends
 abbrev pub finished : Draft → Result Scenario Cause
 finished draft = do
-  _ ← rule (is_whole draft) Missing
+  _ ← rule (is_whole_draft draft) Missing
   Ok (record { format = draft.format; caches = draft.caches; nodes = draft.nodes; plan = draft.plan; sessions = draft.sessions })

@@ -8,20 +8,20 @@ use Rattle.scen_text.specs.declared.cause.Cause.TheVariants.{Syntax}
 use Rattle.scen_text.specs.declared.line.CacheWords.{CacheWords}
 use Rattle.scen_text.specs.declared.line.KeyWords.{KeyWords}
 use Rattle.scen_text.specs.Causes.{◌>>=◌}
-use Rattle.scen_text.specs.Words.{four_words, number, name, key, object, at_slash}
+use Rattle.scen_text.specs.Words.{at_slash, four_words, key_of_word, name, number_of_word, object}
 
 -- the name and the three numbers of a cache
 abbrev pub cache_words : List (List ℕ) → Result CacheWords Cause
 cache_words rest = do
   found ← four_words rest
   called ← name found.0
-  parts ← number found.1
-  backups ← number found.2
-  near ← number found.3
+  parts ← number_of_word found.1
+  backups ← number_of_word found.2
+  near ← number_of_word found.3
   Ok (record { name = called; parts = parts; backups = backups; near = near })
 
-abbrev pub node : List ℕ → Result NodeId Cause
-node word = number word >>= λ n. Ok (record { 0 = n })
+abbrev pub node_of_word : List ℕ → Result NodeId Cause
+node_of_word word = number_of_word word >>= λ n. Ok (record { 0 = n })
 
 -- whether the word is `server`; the other word is `client`
 abbrev pub role : List ℕ → Result Bool Cause
@@ -36,9 +36,9 @@ abbrev pub key_words : ℕ → List ℕ → Result KeyWords Cause
 key_words format word = if format == 2 then (do
   found ← at_slash word
   cache ← name found.0
-  k ← key found.1
+  k ← key_of_word found.1
   Ok (record { cache = cache; key = k }))
-    else (key word >>= λ k. Ok (record { cache = Some (codes "default"); key = k }))
+    else (key_of_word word >>= λ k. Ok (record { cache = Some (codes "default"); key = k }))
 
 -- `NAME/X`
 abbrev pub object_words : List ℕ → Result KeyWords Cause

@@ -36,22 +36,22 @@ names_plain caches name = list_any (λ cache. not cache.«data» && bytes_eq cac
 abbrev pub same_object : Key → Key → Bool
 same_object a b = (a.cache == b.cache) && bytes_eq a.text b.text
 
-abbrev pub same_kind : Kind → Kind → Bool
-same_kind Long Long = true
-same_kind Sequence Sequence = true
-same_kind Queue Queue = true
-same_kind _ _ = false
+abbrev pub same_object_kind : Kind → Kind → Bool
+same_object_kind Long Long = true
+same_object_kind Sequence Sequence = true
+same_object_kind Queue Queue = true
+same_object_kind _ _ = false
 
 -- the object is known to be of another kind
 abbrev pub is_other : List (Key × Kind) → Key → Kind → Bool
-is_other objects key kind = list_any (λ known. same_object known.0 key && not (same_kind known.1 kind)) objects
+is_other objects key kind = list_any (λ known_cache. same_object known_cache.0 key && not (same_object_kind known_cache.1 kind)) objects
 
 -- the object's kind is known
 abbrev pub has_object : List (Key × Kind) → Key → Bool
-has_object objects key = list_any (λ known. same_object known.0 key) objects
+has_object objects key = list_any (λ known_cache. same_object known_cache.0 key) objects
 
 abbrev pub is_named : List NodeId → NodeId → Bool
-is_named named node = list_any (λ known. known.0 == node.0) named
+is_named named node = list_any (λ known_cache. known_cache.0 == node.0) named
 
 abbrev pub has_session : List Session → List ℕ → Bool
 has_session sessions name = list_any (λ session. bytes_eq session.name name) sessions
@@ -87,18 +87,18 @@ abbrev pub place_of_key : List Cache → KeyWords → Option ℕ
 place_of_key caches key = place_named caches key.cache
 
 -- the number of a cache that a line before names
-abbrev pub known : Option ℕ → Result ℕ Cause
-known (Some number) = Ok number
-known None = Err NoSuchCache
+abbrev pub known_cache : Option ℕ → Result ℕ Cause
+known_cache (Some number) = Ok number
+known_cache None = Err NoSuchCache
 
 -- the key in the cache of this number
-abbrev pub in_cache : ℕ → Key → Key
-in_cache number key = record key { cache = number }
+abbrev pub key_in_cache : ℕ → Key → Key
+key_in_cache number key = record key { cache = number }
 
 -- no line before makes the object one of another kind
-abbrev pub agrees : List (Key × Kind) → Option ℕ → Option Key → Kind → Bool
-agrees objects (Some number) (Some key) kind = not (is_other objects (in_cache number key) kind)
-agrees objects _ _ kind = true
+abbrev pub agrees_with_known : List (Key × Kind) → Option ℕ → Option Key → Kind → Bool
+agrees_with_known objects (Some number) (Some key) kind = not (is_other objects (key_in_cache number key) kind)
+agrees_with_known objects _ _ kind = true
 
 -- no step before stands at a later moment
 abbrev pub rises : List PlanStep → ℕ → Bool

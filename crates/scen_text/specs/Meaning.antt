@@ -15,9 +15,9 @@ use Rattle.scen_text.specs.declared.line.Verb.{Verb}
 use Rattle.scen_text.specs.declared.line.Verb.TheVariants as verb
 use Rattle.scen_text.specs.Causes.{◌>>=◌}
 use Rattle.scen_text.specs.Keywords.{keyword_of}
-use Rattle.scen_text.specs.Forms.{cache_words, node, mode, key_words, object_words}
+use Rattle.scen_text.specs.Forms.{cache_words, key_words, mode, node_of_word, object_words}
 use Rattle.scen_text.specs.Plans.{plan_line}
-use Rattle.scen_text.specs.Words.{words, only_word, two_words, number, name, value, integer}
+use Rattle.scen_text.specs.Words.{integer, name, number_of_word, only_word, two_words, value_of_word, words}
 
 abbrev pub format_of : List ℕ → Result ℕ Cause
 format_of word = if bytes_eq word (codes "1") then Ok 1 else (if bytes_eq word (codes "2") then Ok 2 else Err Syntax)
@@ -33,7 +33,7 @@ head_line rest = do
 abbrev pub setting_line : Setting → List (List ℕ) → Result Line Cause
 setting_line setting rest = do
   word ← only_word rest
-  n ← number word
+  n ← number_of_word word
   Ok (line.Setting setting n)
 
 -- `cache NAME P B R` or `data NAME P B R`
@@ -44,21 +44,21 @@ cache_line is_data rest = cache_words rest >>= λ cache. Ok (line.Cache is_data 
 abbrev pub member_line : Bool → List (List ℕ) → Result Line Cause
 member_line server rest = do
   word ← only_word rest
-  n ← node word
+  n ← node_of_word word
   Ok (line.Member (record { node = n; server = server }))
 
 -- `session NAME N`
-abbrev pub session_line : List (List ℕ) → Result Line Cause
-session_line rest = do
+abbrev pub session_line_meant : List (List ℕ) → Result Line Cause
+session_line_meant rest = do
   found ← two_words rest
   called ← name found.0
-  n ← node found.1
+  n ← node_of_word found.1
   Ok (line.Session called n)
 
 -- the timeout behind a mode, 0 where none is written
 abbrev pub timeout : List (List ℕ) → Result ℕ Cause
 timeout [] = Ok 0
-timeout (word ∷ []) = number word
+timeout (word ∷ []) = number_of_word word
 timeout _ = Err Syntax
 
 -- `begin`, `begin MODE` or `begin MODE T`
@@ -73,7 +73,7 @@ begin_line (word ∷ more) = do
 abbrev pub sleep_line : List (List ℕ) → Result Line Cause
 sleep_line rest = do
   word ← only_word rest
-  moments ← number word
+  moments ← number_of_word word
   Ok (line.Bare (command.Sleep moments))
 
 -- a line of one word, which means this
@@ -93,7 +93,7 @@ abbrev pub key_value_line : ℕ → List (List ℕ) → Result Line Cause
 key_value_line format rest = do
   found ← two_words rest
   k ← key_words format found.0
-  v ← value found.1
+  v ← value_of_word found.1
   Ok (line.Keyed (verb.Put v) k)
 
 -- `add K I`
@@ -116,7 +116,7 @@ abbrev pub object_value_line : List (List ℕ) → Result Line Cause
 object_value_line rest = do
   found ← two_words rest
   k ← object_words found.0
-  v ← value found.1
+  v ← value_of_word found.1
   Ok (line.Keyed (verb.Offer v) k)
 
 -- `incr O I`
@@ -138,7 +138,7 @@ meant format keyword.Data rest = cache_line true rest
 meant format keyword.Server rest = member_line true rest
 meant format keyword.Client rest = member_line false rest
 meant format keyword.Plan rest = plan_line format rest
-meant format keyword.Session rest = session_line rest
+meant format keyword.Session rest = session_line_meant rest
 meant format keyword.End rest = bare_line line.End rest
 meant format keyword.Begin rest = begin_line rest
 meant format keyword.Get rest = key_line format verb.Get rest
@@ -153,14 +153,14 @@ meant format keyword.Next rest = object_line verb.Next rest
 meant format keyword.Offer rest = object_value_line rest
 meant format keyword.Poll rest = object_line verb.Poll rest
 
-abbrev pub known : ℕ → Option Keyword → List (List ℕ) → Result Line Cause
-known format (Some word) rest = meant format word rest
-known format None rest = Err UnknownWord
+abbrev pub known_line : ℕ → Option Keyword → List (List ℕ) → Result Line Cause
+known_line format (Some word) rest = meant format word rest
+known_line format None rest = Err UnknownWord
 
 -- what the words of a line mean: nothing where there are none
 abbrev pub meaning : ℕ → List (List ℕ) → Result Line Cause
 meaning format [] = Ok line.Blank
-meaning format (first ∷ rest) = known format (keyword_of format first) rest
+meaning format (first ∷ rest) = known_line format (keyword_of format first) rest
 
 -- a remark begins with `#`
 abbrev pub is_remark : List ℕ → Bool
@@ -168,5 +168,5 @@ is_remark [] = false
 is_remark (byte ∷ bytes) = byte == 35
 
 -- what a line of a text of this format means
-abbrev pub line_of : ℕ → List ℕ → Result Line Cause
-line_of format bytes = if not (is_utf8 bytes) then Err NotUtf8 else (if is_remark bytes then Ok line.Blank else meaning format (words bytes))
+abbrev pub line_meant : ℕ → List ℕ → Result Line Cause
+line_meant format bytes = if not (is_utf8 bytes) then Err NotUtf8 else (if is_remark bytes then Ok line.Blank else meaning format (words bytes))

@@ -24,8 +24,8 @@ rank place.Script = 10
 rank place.Block = 10
 
 -- behind the line of the format and behind no line that comes later in the order
-abbrev pub stands : Place → Place → Bool
-stands last next = nat_le 1 (rank last) && nat_le (rank last) (rank next)
+abbrev pub may_follow : Place → Place → Bool
+may_follow last next = nat_le 1 (rank last) && nat_le (rank last) (rank next)
 
 -- the same, and not behind one of its kind
 abbrev pub stands_once : Place → Place → Bool
@@ -42,16 +42,16 @@ abbrev pub is_outside : Place → Bool
 is_outside place.Script = true
 is_outside _ = false
 
-abbrev pub is_start : Place → Bool
-is_start place.Start = true
-is_start _ = false
+abbrev pub is_start_place : Place → Bool
+is_start_place place.Start = true
+is_start_place _ = false
 
 -- behind the line of the format, and in no session
-abbrev pub is_whole : Place → Bool
-is_whole place.Start = false
-is_whole place.Script = false
-is_whole place.Block = false
-is_whole _ = true
+abbrev pub is_outside_session : Place → Bool
+is_outside_session place.Start = false
+is_outside_session place.Script = false
+is_outside_session place.Block = false
+is_outside_session _ = true
 
 -- the place behind a command: a `begin` opens a block, and a `commit` or a `rollback` closes it
 abbrev pub place_after : Place → Item → Place
@@ -60,7 +60,7 @@ place_after last (Plain command.Commit) = place.Script
 place_after last (Plain command.Rollback) = place.Script
 place_after last _ = last
 
-abbrev pub place_of : Setting → Place
-place_of setting.Parts = place.Parts
-place_of setting.Backups = place.Backups
-place_of setting.Near = place.Near
+abbrev pub place_of_setting : Setting → Place
+place_of_setting setting.Parts = place.Parts
+place_of_setting setting.Backups = place.Backups
+place_of_setting setting.Near = place.Near

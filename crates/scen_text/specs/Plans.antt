@@ -9,14 +9,14 @@ use Rattle.scen_text.specs.declared.line.Line.{Line}
 use Rattle.scen_text.specs.declared.line.Line.TheVariants as line
 use Rattle.scen_text.specs.Causes.{◌>>=◌}
 use Rattle.scen_text.specs.Keywords.{step_keyword}
-use Rattle.scen_text.specs.Forms.{cache_words, node, role}
-use Rattle.scen_text.specs.Words.{only_word, two_words, number, name}
+use Rattle.scen_text.specs.Forms.{cache_words, node_of_word, role}
+use Rattle.scen_text.specs.Words.{name, number_of_word, only_word, two_words}
 
 -- `join N server` or `join N client`
 abbrev pub join_step : ℕ → List (List ℕ) → Result Line Cause
 join_step moment rest = do
   found ← two_words rest
-  n ← node found.0
+  n ← node_of_word found.0
   server ← role found.1
   Ok (line.Join moment (record { node = n; server = server }))
 
@@ -24,23 +24,23 @@ join_step moment rest = do
 abbrev pub lose_step : ℕ → List (List ℕ) → Result Line Cause
 lose_step moment rest = do
   word ← only_word rest
-  n ← node word
+  n ← node_of_word word
   Ok (line.Links moment (Lose n))
 
 -- `hold N N`
 abbrev pub hold_step : ℕ → List (List ℕ) → Result Line Cause
 hold_step moment rest = do
   found ← two_words rest
-  sender ← node found.0
-  addressee ← node found.1
+  sender ← node_of_word found.0
+  addressee ← node_of_word found.1
   Ok (line.Links moment (Hold sender addressee))
 
 -- `release N N`
 abbrev pub release_step : ℕ → List (List ℕ) → Result Line Cause
 release_step moment rest = do
   found ← two_words rest
-  sender ← node found.0
-  addressee ← node found.1
+  sender ← node_of_word found.0
+  addressee ← node_of_word found.1
   Ok (line.Links moment (Release sender addressee))
 
 -- `start NAME P B R`
@@ -70,5 +70,5 @@ step_or_syntax moment None rest = Err Syntax
 
 -- `plan M STEP`
 abbrev pub plan_line : ℕ → List (List ℕ) → Result Line Cause
-plan_line format (first ∷ second ∷ rest) = number first >>= λ moment. step_or_syntax moment (step_keyword format second) rest
+plan_line format (first ∷ second ∷ rest) = number_of_word first >>= λ moment. step_or_syntax moment (step_keyword format second) rest
 plan_line format _ = Err Syntax

@@ -9,8 +9,8 @@ use Rattle.scen_text.specs.declared.draft.Draft.{Draft}
 use Rattle.scen_text.specs.declared.line.Line.{Line}
 use Rattle.scen_text.specs.declared.line.Line.TheVariants as line
 use Rattle.scen_text.specs.Causes.{Refusal}
-use Rattle.scen_text.specs.Drafts.{empty, line_taken, finished}
-use Rattle.scen_text.specs.Meaning.{line_of}
+use Rattle.scen_text.specs.Drafts.{empty, finished, line_taken}
+use Rattle.scen_text.specs.Meaning.{line_meant}
 
 -- the node that a line or a join step names, whatever else is wrong with it
 abbrev pub named_by : Result Line Cause → List NodeId
@@ -20,7 +20,7 @@ named_by _ = []
 
 -- the nodes that the lines name
 abbrev pub named_in : List (List ℕ) → List NodeId
-named_in text = flat_map (λ bytes. named_by (line_of 1 bytes)) text
+named_in text = flat_map (λ bytes. named_by (line_meant 1 bytes)) text
 
 -- what was found at this line, or its refusal there
 abbrev pub at_line : {A : Type 0} → ℕ → Result A Cause → Result A Refusal

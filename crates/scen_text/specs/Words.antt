@@ -40,11 +40,11 @@ four_words (first ∷ second ∷ third ∷ fourth ∷ []) = Ok (first, second, t
 four_words _ = Err Syntax
 
 -- decimal digits, at least one and at most 7
-abbrev pub is_number : List ℕ → Bool
-is_number word = not (length word == 0) && nat_le (length word) 7 && list_all is_digit word
+abbrev pub is_number_word : List ℕ → Bool
+is_number_word word = not (length word == 0) && nat_le (length word) 7 && list_all is_digit word
 
-abbrev pub number : List ℕ → Result ℕ Cause
-number word = if is_number word then Ok (digits_value 10 word) else Err Syntax
+abbrev pub number_of_word : List ℕ → Result ℕ Cause
+number_of_word word = if is_number_word word then Ok (digits_value 10 word) else Err Syntax
 
 -- letters and digits, at least one, at most 16 of them to fit
 abbrev pub name : List ℕ → Result (Option (List ℕ)) Cause
@@ -64,11 +64,11 @@ fitting true (Err text.TooLong) = Ok None
 fitting formed (Err fault) = Err Syntax
 
 -- the key, in cache 0 for now
-abbrev pub key : List ℕ → Result (Option Key) Cause
-key word = fitting (list_all is_key_byte word) (key_of 0 word)
+abbrev pub key_of_word : List ℕ → Result (Option Key) Cause
+key_of_word word = fitting (list_all is_key_byte word) (key_of 0 word)
 
-abbrev pub value : List ℕ → Result (Option (List ℕ)) Cause
-value word = fitting (list_all is_value_byte word) (value_of word)
+abbrev pub value_of_word : List ℕ → Result (Option (List ℕ)) Cause
+value_of_word word = fitting (list_all is_value_byte word) (value_of word)
 
 abbrev pub is_slash : ℕ → Bool
 is_slash byte = byte == 47
@@ -79,23 +79,23 @@ at_slash word =
     if nat_lt (position_or_len is_slash word) (length word) then Ok (before_first is_slash word, after_first is_slash word) else Err Syntax
 
 -- digits with no 0 in front, at most the 19 that the greatest integer has
-abbrev pub is_natural : List ℕ → Bool
-is_natural [] = false
-is_natural (first ∷ more) = not (first == 48) && nat_le (length (first ∷ more)) 19 && list_all is_digit (first ∷ more)
+abbrev pub is_natural_word : List ℕ → Bool
+is_natural_word [] = false
+is_natural_word (first ∷ more) = not (first == 48) && nat_le (length (first ∷ more)) 19 && list_all is_digit (first ∷ more)
 
 -- the number from 1 to `most` that they spell
-abbrev pub natural : ℕ → List ℕ → Result ℕ Cause
-natural most word =
-    if not (is_natural word) then Err Syntax else (if nat_le (digits_value 10 word) most then Ok (digits_value 10 word) else Err Syntax)
+abbrev pub natural_of_word : ℕ → List ℕ → Result ℕ Cause
+natural_of_word most word =
+    if not (is_natural_word word) then Err Syntax else (if nat_le (digits_value 10 word) most then Ok (digits_value 10 word) else Err Syntax)
 
 -- as far below 0 as the number is above
-abbrev pub below_zero : ℕ → ℤ
-below_zero n = if n == 0 then pos 0 else negsuc (n - 1)
+abbrev pub negated : ℕ → ℤ
+negated n = if n == 0 then pos 0 else negsuc (n - 1)
 
 -- `0`, or a number from 1 on, with a `-` in front if it is below 0, of 64 bits
 abbrev pub integer : List ℕ → Result ℤ Cause
 integer [] = Err Syntax
 integer (first ∷ digits) =
     if bytes_eq (first ∷ digits) (codes "0") then Ok (pos 0)
-    else (if first == 45 then (natural 9223372036854775808 digits >>= λ n. Ok (below_zero n))
-    else (natural 9223372036854775807 (first ∷ digits) >>= λ n. Ok (pos n)))
+    else (if first == 45 then (natural_of_word 9223372036854775808 digits >>= λ n. Ok (negated n))
+    else (natural_of_word 9223372036854775807 (first ∷ digits) >>= λ n. Ok (pos n)))

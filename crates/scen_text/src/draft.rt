@@ -2,7 +2,7 @@
 
 ghost use Rattle.std.specs.Prelude.{◌≡◌, ◌≤◌, [], ◌∷◌, ◌++◌, length, OnOk};
 ghost use Rattle.scen_text.specs.Causes.{Becomes};
-ghost use Rattle.scen_text.specs.Known.{is_first, known, in_cache, cache_line_place, cache_what, member_what};
+ghost use Rattle.scen_text.specs.Known.{cache_line_place, cache_what, is_first, key_in_cache, known_cache, member_what};
 
 use crate::cause::{Cause, LineFault, What, fit, rule};
 use crate::known::{
@@ -62,8 +62,8 @@ pub struct Draft {
 }
 
 impl Draft {
-    ghost use Rattle.scen_text.specs.Drafts.{no_session, empty, with_head, with_setting, total_with, with_cache, with_member, nodes_named, planned, with_join, with_links, with_start, with_stop, with_session, with_object, with_item, has_room, with_bare, verb_stands, with_keyed, with_end, stepped, line_taken, is_whole, finished};
-    ghost use Rattle.scen_text.specs.Known.{cache_place, names_data_here, names_plain_here, names_first, place_of_key, agrees, rises};
+    ghost use Rattle.scen_text.specs.Drafts.{draft_after_line, draft_with_member, draft_with_step, empty, finished, has_room, is_whole_draft, line_taken, no_session, nodes_named, total_with, verb_stands, with_bare, with_cache, with_end, with_head, with_item, with_join, with_keyed, with_links, with_object, with_session, with_setting, with_start, with_stop};
+    ghost use Rattle.scen_text.specs.Known.{agrees_with_known, cache_place, names_data_here, names_first, names_plain_here, place_of_key, rises};
 
     /// No session.
     fn no_session(alloc: Global) -> Session
@@ -168,7 +168,7 @@ impl Draft {
 
     /// Takes a node.
     fn with_member(&mut self, member: Member) -> Result<(), LineFault>
-        ensures { Becomes result self.new (with_member self.old member) }
+        ensures { Becomes result self.new (draft_with_member self.old member) }
     {
         let what = member_what(member.server);
         rule(self.place.stands(Place::Nodes), Cause::Syntax)?;
@@ -194,7 +194,7 @@ impl Draft {
 
     /// Adds a step.
     fn push_step(&mut self, moment: u64, step: Step) -> Mem<()>
-        ensures { OnOk result (self.new ≡ planned self.old moment step) }
+        ensures { OnOk result (self.new ≡ draft_with_step self.old moment step) }
     {
         self.plan.push(PlanStep { moment, step })?;
         self.place = Place::Plan;
@@ -402,7 +402,7 @@ impl Draft {
 
     /// Whether no line before makes the object one of another kind.
     fn agrees(&self, place: Option<u32>, key: Option<Key>, kind: Kind) -> bool
-        ensures { result ≡ agrees self.now.objects place key kind }
+        ensures { result ≡ agrees_with_known self.now.objects place key kind }
     {
         match (place, key) {
             (Some(number), Some(key)) => {
@@ -473,7 +473,7 @@ impl Draft {
     /// Takes what the next line means.
     fn step(&mut self, alloc: Global, line: &Line) -> Result<(), LineFault>
         requires { length self.old.caches ≤ 8 }
-        ensures { Becomes result self.new (stepped self.old line.now) }
+        ensures { Becomes result self.new (draft_after_line self.old line.now) }
     {
         match line {
             Line::Blank => Ok(()),
@@ -505,7 +505,7 @@ impl Draft {
 
     /// Whether nothing is missing.
     fn is_whole(&self) -> bool
-        ensures { result ≡ is_whole self.now }
+        ensures { result ≡ is_whole_draft self.now }
     {
         self.place.is_whole()
             && has_server(self.nodes.as_slice())
@@ -553,7 +553,7 @@ fn is_first(place: Option<u32>) -> bool
 
 /// The number of a cache that a line before names.
 fn known(place: Option<u32>) -> Result<u32, Cause>
-    ensures { result ≡ known place }
+    ensures { result ≡ known_cache place }
 {
     match place {
         Some(number) => Ok(number),
@@ -563,7 +563,7 @@ fn known(place: Option<u32>) -> Result<u32, Cause>
 
 /// The key in the cache of this number.
 fn in_cache(number: u32, key: &Key) -> Key
-    ensures { result ≡ in_cache number key.now }
+    ensures { result ≡ key_in_cache number key.now }
 {
     Key {
         cache: number,

@@ -1,8 +1,8 @@
 //! What the lines before a line name.
 
 ghost use Rattle.std.specs.Prelude.{◌≡◌, ◌<◌, ◌≤◌, length, IfSome};
-ghost use Rattle.ignite_types.specs.Good.{has_member, has_cache_line, stops};
-ghost use Rattle.scen_text.specs.Known.{cache_place, has_cache, names_data, names_plain, is_named, has_server, has_line, has_session, is_stopped};
+ghost use Rattle.ignite_types.specs.Good.{has_cache_line, has_member, stops};
+ghost use Rattle.scen_text.specs.Known.{cache_place, has_cache, has_line, has_server, has_session, is_named, is_stopped, names_data, names_plain};
 
 use crate::words::Name;
 use ignite_types::{Cache, Member, NodeId, PlanStep, Session, Step};

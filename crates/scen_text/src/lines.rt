@@ -3,7 +3,7 @@
 ghost use Rattle.std.specs.Prelude.{◌≡◌, [], ◌∷◌, ◌<◌, false, length, ◌≤◌, ◌==◌, position, MatchOption, IfSome, IfNone, OnSome};
 ghost use Rattle.std.specs.List.{position_or_len, before_first, after_first};
 ghost use Rattle.std.specs.Str.Lines.{lines, strip_carriage_return};
-ghost use Rattle.scen_text.specs.Words.{words, begins_with_space};
+ghost use Rattle.scen_text.specs.Words.{begins_with_space, words};
 
 /// The line without the carriage return before its line feed.
 fn without_return(line: &[u8]) -> &[u8]

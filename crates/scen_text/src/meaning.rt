@@ -3,8 +3,8 @@
 ghost use Rattle.std.specs.Prelude.{◌≡◌, List, ℕ, IsTrue};
 ghost use Rattle.std.specs.Str.{is_utf8};
 ghost use Rattle.scen_text.specs.Words.{words};
-ghost use Rattle.scen_text.specs.Forms.{cache_words, node, role, mode, key_words, object_words};
-ghost use Rattle.scen_text.specs.Meaning.{format_of, head_line, setting_line, cache_line, member_line, timeout, begin_line, sleep_line, bare_line, key_line, key_value_line, key_integer_line, object_line, object_value_line, object_integer_line, session_line, meant, meaning, line_of};
+ghost use Rattle.scen_text.specs.Forms.{cache_words, key_words, mode, node_of_word, object_words, role};
+ghost use Rattle.scen_text.specs.Meaning.{bare_line, begin_line, cache_line, format_of, head_line, key_integer_line, key_line, key_value_line, line_meant, meaning, meant, member_line, object_integer_line, object_line, object_value_line, session_line_meant, setting_line, sleep_line, timeout};
 
 use crate::cause::Cause;
 use crate::keyword::{Keyword, keyword_of};
@@ -72,7 +72,7 @@ fn cache_line(is_data: bool, rest: &[u8]) -> Result<Line, Cause>
 
 /// The node that a word names.
 pub fn node(word: &[u8]) -> Result<NodeId, Cause>
-    ensures { result ≡ node word.now }
+    ensures { result ≡ node_of_word word.now }
 {
     let n = number(word)?;
     Ok(NodeId(n))
@@ -101,7 +101,7 @@ pub fn role(word: &[u8]) -> Result<bool, Cause>
 
 /// A line `session NAME N`.
 fn session_line(rest: &[u8]) -> Result<Line, Cause>
-    ensures { result ≡ session_line (words rest.now) }
+    ensures { result ≡ session_line_meant (words rest.now) }
 {
     let (first, second) = two_words(rest)?;
     let name = name(first)?;
@@ -304,7 +304,7 @@ fn is_utf8(bytes: &[u8]) -> bool
 
 /// What a line of a text of this format means.
 pub fn line_of(format: u32, bytes: &[u8]) -> Result<Line, Cause>
-    ensures { result ≡ line_of format bytes.now }
+    ensures { result ≡ line_meant format bytes.now }
 {
     if !is_utf8(bytes) {
         return Err(Cause::NotUtf8);

@@ -1,7 +1,7 @@
 //! The data objects that commands name.
 
 ghost use Rattle.std.specs.Prelude.{◌≡◌, [], ◌∷◌, ◌++◌, OnOk, if◌then◌else◌};
-ghost use Rattle.scen_text.specs.Known.{same_kind, is_other, has_object};
+ghost use Rattle.scen_text.specs.Known.{has_object, is_other, same_object_kind};
 
 use crate::limits::Kind;
 use ignite_types::{Key, Mem};
@@ -63,7 +63,7 @@ impl Objects {
 
 /// Whether these are one kind.
 fn same_kind(a: Kind, b: Kind) -> bool
-    ensures { result ≡ same_kind a b }
+    ensures { result ≡ same_object_kind a b }
 {
     match (a, b) {
         (Kind::Long, Kind::Long) => true,

@@ -1,7 +1,7 @@
 //! How far a text was read.
 
 ghost use Rattle.std.specs.Prelude.{◌≡◌};
-ghost use Rattle.scen_text.specs.Places.{rank, stands, stands_once, in_script, is_outside, is_start, is_whole, place_after, place_of};
+ghost use Rattle.scen_text.specs.Places.{in_script, is_outside, is_outside_session, is_start_place, may_follow, place_after, place_of_setting, rank, stands_once};
 
 use crate::line::Setting;
 use ignite_types::{Command, Item};
@@ -51,7 +51,7 @@ impl Place {
 
     /// Whether a line of the kind `next` may follow.
     pub fn stands(self, next: Place) -> bool
-        ensures { result ≡ stands self next }
+        ensures { result ≡ may_follow self next }
     {
         1 <= self.rank() && self.rank() <= next.rank()
     }
@@ -85,7 +85,7 @@ impl Place {
 
     /// Whether nothing stands before.
     pub fn is_start(self) -> bool
-        ensures { result ≡ is_start self }
+        ensures { result ≡ is_start_place self }
     {
         match self {
             Place::Start => true,
@@ -95,7 +95,7 @@ impl Place {
 
     /// Whether a text may end here: behind its first line and in no session.
     pub fn is_whole(self) -> bool
-        ensures { result ≡ is_whole self }
+        ensures { result ≡ is_outside_session self }
     {
         match self {
             Place::Start | Place::Script | Place::Block => false,
@@ -118,7 +118,7 @@ impl Place {
 
 /// The kind of a setting's line.
 pub fn place_of(setting: Setting) -> Place
-    ensures { result ≡ place_of setting }
+    ensures { result ≡ place_of_setting setting }
 {
     match setting {
         Setting::Parts => Place::Parts,

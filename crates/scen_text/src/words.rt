@@ -6,7 +6,7 @@ ghost use Rattle.std.specs.Str.Parse.{digits_value};
 ghost use Rattle.ignite_types.specs.Texts.{is_digit, is_key_byte, is_value_byte};
 ghost use Rattle.ignite_types.specs.Good.{is_name_byte};
 ghost use Rattle.scen_text.specs.Causes.{Gives};
-ghost use Rattle.scen_text.specs.Words.{words, only_word, two_words, four_words, is_number, number, name, fitting, key, object, value, is_natural, natural, below_zero, integer, at_slash};
+ghost use Rattle.scen_text.specs.Words.{at_slash, fitting, four_words, integer, is_natural_word, is_number_word, key_of_word, name, natural_of_word, negated, number_of_word, object, only_word, two_words, value_of_word, words};
 
 use crate::cause::Cause;
 use crate::lines::{cut_at, first_word};
@@ -120,7 +120,7 @@ fn are_value_bytes(bytes: &[u8]) -> bool
 
 /// Whether the word is a number.
 fn is_number(word: &[u8]) -> bool
-    ensures { result ≡ is_number word.now }
+    ensures { result ≡ is_number_word word.now }
 {
     !word.is_empty() && word.len() <= DIGITS && are_digits(word)
 }
@@ -140,7 +140,7 @@ fn digits_value(digits: &[u8]) -> u32
 
 /// The number that a word is.
 pub fn number(word: &[u8]) -> Result<u32, Cause>
-    ensures { result ≡ number word.now }
+    ensures { result ≡ number_of_word word.now }
 {
     if is_number(word) {
         Ok(digits_value(word))
@@ -191,14 +191,14 @@ fn fitting<T: Copy>(formed: bool, read: Result<T, TextFault>) -> Result<Option<T
 
 /// The key that a word is, in cache 0; nothing where it is too long.
 pub fn key(word: &[u8]) -> Result<Option<Key>, Cause>
-    ensures { result ≡ key word.now }
+    ensures { result ≡ key_of_word word.now }
 {
     fitting(are_key_bytes(word), Key::read(word))
 }
 
 /// The value that a word is; nothing where it is too long.
 pub fn value(word: &[u8]) -> Result<Option<Value>, Cause>
-    ensures { result ≡ value word.now }
+    ensures { result ≡ value_of_word word.now }
 {
     fitting(are_value_bytes(word), Value::read(word))
 }
@@ -215,7 +215,7 @@ pub fn at_slash(word: &[u8]) -> Result<(&[u8], &[u8]), Cause>
 
 /// Whether these are digits, few enough, and not 0 in front.
 fn is_natural(word: &[u8]) -> bool
-    ensures { result ≡ is_natural word.now }
+    ensures { result ≡ is_natural_word word.now }
 {
     match word {
         [first, ..] => *first != b'0' && word.len() <= INTEGER_DIGITS && are_digits(word),
@@ -238,7 +238,7 @@ fn long_digits_value(digits: &[u8]) -> u64
 
 /// The number from 1 to `most` that a word is.
 fn natural(most: u64, word: &[u8]) -> Result<u64, Cause>
-    ensures number { result ≡ natural most word.now }
+    ensures number { result ≡ natural_of_word most word.now }
     ensures within { IfOk result (λ n. n ≤ most) }
 {
     if !is_natural(word) {
@@ -254,8 +254,8 @@ fn natural(most: u64, word: &[u8]) -> Result<u64, Cause>
 
 /// The number that is as far below 0 as this one is above.
 fn below_zero(number: u64) -> i64
-    requires { number ≤ 2 ^ 63 }
-    ensures { result ≡ below_zero number }
+    requires { number_of_word ≤ 2 ^ 63 }
+    ensures { result ≡ negated number_of_word }
 {
     if number == 0 {
         0

@@ -16,25 +16,25 @@ use Rattle.ignite_types.specs.declared.scenario.Scenario.{Scenario}
 use Rattle.ignite_types.specs.Good.{are_distinct, good, good_blocks, good_item, good_key, good_kinds, good_session, has_member, is_name, object_of, same_session_name}
 use Rattle.rand_pcg.specs.Lcg.{Lcg}
 use Rattle.sched_seed.specs.declared.transaction.Words.{Words}
-use Rattle.sched_seed.specs.Generated.{caches, client, generated, home, node, server, session, sessions_from}
-use Rattle.sched_seed.specs.Transactions.{after_script, after_words, key_of, moves, numbered, other_than, script, transaction, words_of}
+use Rattle.sched_seed.specs.Generated.{caches, generated, generated_client, generated_node, generated_server, generated_session, home, sessions_from}
+use Rattle.sched_seed.specs.Transactions.{after_script, after_words, moved_amount, numbered, numbered_key, other_than, script, transaction, words_of}
 use Rattle.sched_seed.specs.Words.{generator}
 use Rattle.sched_seed.proofs.Below.{all_below, passes_below}
 
 -- the nodes of a generated scenario, the joining one last
 abbrev everyone : List Member
-everyone = server 1 ∷ server 2 ∷ server 3 ∷ server 4 ∷ client 9 ∷ server 5 ∷ []
+everyone = generated_server 1 ∷ generated_server 2 ∷ generated_server 3 ∷ generated_server 4 ∷ generated_client 9 ∷ generated_server 5 ∷ []
 
-good_keys : (n : ℕ) → n < 16 → good_key caches (key_of n) ≡ true
+good_keys : (n : ℕ) → n < 16 → good_key caches (numbered_key n) ≡ true
 unfolding digits
-good_keys n h = passes_below (λ m. good_key caches (key_of m)) 16 refl n h
+good_keys n h = passes_below (λ m. good_key caches (numbered_key m)) 16 refl n h
 
 good_names : (place : ℕ) → place < 64 → is_name (numbered 83 (place + 1)) ≡ true
 unfolding digits
 good_names place h = passes_below (λ p. is_name (numbered 83 (p + 1))) 64 refl place h
 
-good_homes : (place : ℕ) → has_member everyone (home place) ≡ true
-good_homes place = passes_below (λ r. has_member everyone (node (slice_index (1 ∷ 3 ∷ 4 ∷ 9 ∷ []) r))) 4 refl (place % 4) (omega arith)
+good_session_nodes : (place : ℕ) → has_member everyone (home place) ≡ true
+good_session_nodes place = passes_below (λ r. has_member everyone (generated_node (slice_index (1 ∷ 3 ∷ 4 ∷ 9 ∷ []) r))) 4 refl (place % 4) (omega arith)
 
 not_true : (b : Bool) → not b ≡ true → b ≡ false
 not_true true h = absurd (cc)
@@ -75,7 +75,7 @@ length-script : (txs : ℕ) (g : Lcg) → length (script txs g) ≡ 5 * txs
 length-script zero g = refl
 length-script (suc txs) g = let before : length (script txs (after_words g)) ≡ 5 * txs = length-script txs (after_words g) in omega arith
 
-good_begun : (even : Bool) (words : Words) (more : List Item) → good_blocks false (Plain (cond even (Begin Pessimistic 50) (Begin Optimistic 0)) ∷ moves (words.from % 16) (other_than (words.from % 16) (words.to % 16)) (words.amount % 100 + 1) ++ Plain Commit ∷ Plain (Sleep 1) ∷ more) ≡ good_blocks false more
+good_begun : (even : Bool) (words : Words) (more : List Item) → good_blocks false (Plain (cond even (Begin Pessimistic 50) (Begin Optimistic 0)) ∷ moved_amount (words.from % 16) (other_than (words.from % 16) (words.to % 16)) (words.amount % 100 + 1) ++ Plain Commit ∷ Plain (Sleep 1) ∷ more) ≡ good_blocks false more
 good_begun true words more = refl
 good_begun false words more = refl
 
@@ -88,10 +88,10 @@ no_objects : (txs : ℕ) (g : Lcg) → filter_map object_of (script txs g) ≡ [
 no_objects zero g = refl
 no_objects (suc txs) g = no_objects txs (after_words g)
 
-good_one : (place txs : ℕ) (g : Lcg) → place < 64 → txs ≤ 100 → good_session caches everyone (session place txs g) ≡ true
+good_one : (place txs : ℕ) (g : Lcg) → place < 64 → txs ≤ 100 → good_session caches everyone (generated_session place txs g) ≡ true
 good_one place txs g h few =
     let short : nat_le (length (script txs g)) 1000 ≡ true = rw (length-script txs g) (le-leb _ _ (omega arith)) in
-    rw (good_names place h, good_homes place, short, good_commands txs g, good_script txs g) refl
+    rw (good_names place h, good_session_nodes place, short, good_commands txs g, good_script txs g) refl
 
 length-sessions : (place n txs : ℕ) (g : Lcg) → length (sessions_from place n txs g) ≡ n
 length-sessions place zero txs g = refl
@@ -103,11 +103,11 @@ good_each place (suc n) txs g h few =
     and_from _ _ (good_one place txs g (omega arith) few) (good_each (place + 1) n txs (after_script txs g) (omega arith) few)
 
 -- no session from a place on has the name of one before it
-other_names : (a place n txs : ℕ) (first g : Lcg) → a < place → place + n ≤ 64 → list_any (same_session_name (session a txs first)) (sessions_from place n txs g) ≡ false
+other_names : (a place n txs : ℕ) (first g : Lcg) → a < place → place + n ≤ 64 → list_any (same_session_name (generated_session a txs first)) (sessions_from place n txs g) ≡ false
 other_names a place zero txs first g h within = refl
 other_names a place (suc n) txs first g h within =
     let here : bytes_eq (numbered 83 (a + 1)) (numbered 83 (place + 1)) ≡ false = distinct_names a place h (omega arith) in
-    let later : list_any (same_session_name (session a txs first)) (sessions_from (place + 1) n txs (after_script txs g)) ≡ false = other_names a (place + 1) n txs first (after_script txs g) (omega arith) (omega arith) in
+    let later : list_any (same_session_name (generated_session a txs first)) (sessions_from (place + 1) n txs (after_script txs g)) ≡ false = other_names a (place + 1) n txs first (after_script txs g) (omega arith) (omega arith) in
     rw (here, later) refl
 
 distinct_sessions : (place n txs : ℕ) (g : Lcg) → place + n ≤ 64 → are_distinct same_session_name (sessions_from place n txs g) ≡ true

@@ -12,36 +12,36 @@ use Rattle.rand_pcg.specs.Lcg.{Lcg}
 use Rattle.sched_seed.specs.Transactions.{after_script, numbered, script}
 use Rattle.sched_seed.specs.Words.{generator}
 
-abbrev pub node : ℕ → NodeId
-node number = record { 0 = number }
+abbrev pub generated_node : ℕ → NodeId
+generated_node number = record { 0 = number }
 
-abbrev pub server : ℕ → Member
-server number = record { node = node number; server = true }
+abbrev pub generated_server : ℕ → Member
+generated_server number = record { node = generated_node number; server = true }
 
-abbrev pub client : ℕ → Member
-client number = record { node = node number; server = false }
+abbrev pub generated_client : ℕ → Member
+generated_client number = record { node = generated_node number; server = false }
 
 abbrev pub caches : List Cache
 caches = record { name = codes "default"; parts = 64; backups = 1; near = 16; first = true; «data» = false } ∷ []
 
 abbrev pub nodes : List Member
-nodes = server 1 ∷ server 2 ∷ server 3 ∷ server 4 ∷ client 9 ∷ []
+nodes = generated_server 1 ∷ generated_server 2 ∷ generated_server 3 ∷ generated_server 4 ∷ generated_client 9 ∷ []
 
 abbrev pub plan : List PlanStep
-plan = record { moment = 20; step = Join (server 5) } ∷ record { moment = 60; step = Lose (node 2) } ∷ []
+plan = record { moment = 20; step = Join (generated_server 5) } ∷ record { moment = 60; step = Lose (generated_node 2) } ∷ []
 
 -- the node of session number `place` + 1
 abbrev pub home : ℕ → NodeId
-home place = node (slice_index (1 ∷ 3 ∷ 4 ∷ 9 ∷ []) (place % 4))
+home place = generated_node (slice_index (1 ∷ 3 ∷ 4 ∷ 9 ∷ []) (place % 4))
 
 -- session number `place` + 1
-abbrev pub session : ℕ → ℕ → Lcg → Session
-session place txs g = record { name = numbered 83 (place + 1); node = home place; commands = script txs g }
+abbrev pub generated_session : ℕ → ℕ → Lcg → Session
+generated_session place txs g = record { name = numbered 83 (place + 1); node = home place; commands = script txs g }
 
 -- so many sessions from this place on, the words of each after those of the ones before it
 abbrev pub sessions_from : ℕ → ℕ → ℕ → Lcg → List Session
 sessions_from place zero txs g = []
-sessions_from place (suc more) txs g = session place txs g ∷ sessions_from (place + 1) more txs (after_script txs g)
+sessions_from place (suc more) txs g = generated_session place txs g ∷ sessions_from (place + 1) more txs (after_script txs g)
 
 -- The scenario of so many sessions of so many transactions each. All words are drawn from stream 7 of the seed.
 abbrev pub generated : ℕ → ℕ → ℕ → Scenario

@@ -29,8 +29,8 @@ abbrev pub numbered : ℕ → ℕ → List ℕ
 numbered letter number = letter ∷ decimal number
 
 -- the key of a number: `k0` to `k15`
-abbrev pub key_of : ℕ → Key
-key_of number = record { cache = 0; text = numbered 107 number }
+abbrev pub numbered_key : ℕ → Key
+numbered_key number = record { cache = 0; text = numbered 107 number }
 
 abbrev pub begin_of : ℕ → Command
 begin_of mode = if mode % 2 == 0 then Begin Pessimistic 50 else Begin Optimistic 0
@@ -40,13 +40,13 @@ abbrev pub other_than : ℕ → ℕ → ℕ
 other_than from to = if to == from then (from + 1) % 16 else to
 
 -- takes an amount from one key and adds it to another
-abbrev pub moves : ℕ → ℕ → ℕ → List Item
-moves from to amount = Plain (Add (key_of from) (neg_ℤ (pos amount))) ∷ Plain (Add (key_of to) (pos amount)) ∷ []
+abbrev pub moved_amount : ℕ → ℕ → ℕ → List Item
+moved_amount from to amount = Plain (Add (numbered_key from) (neg_ℤ (pos amount))) ∷ Plain (Add (numbered_key to) (pos amount)) ∷ []
 
 abbrev pub transaction : Words → List Item
 transaction words =
     Plain (begin_of words.mode) ∷ []
-    ++ moves (words.from % 16) (other_than (words.from % 16) (words.to % 16)) (words.amount % 100 + 1)
+    ++ moved_amount (words.from % 16) (other_than (words.from % 16) (words.to % 16)) (words.amount % 100 + 1)
     ++ Plain Commit ∷ Plain (Sleep 1) ∷ []
 
 -- so many transactions

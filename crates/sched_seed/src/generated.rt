@@ -2,7 +2,7 @@
 
 ghost use Rattle.std.specs.Prelude.{◌≡◌, ◌≤◌, ◌<◌, IfOk, IsTrue, OnOk};
 ghost use Rattle.ignite_types.specs.Good.{good};
-ghost use Rattle.sched_seed.specs.Generated.{caches, generated, home, nodes, plan, session, sessions_from};
+ghost use Rattle.sched_seed.specs.Generated.{caches, generated, generated_session, home, nodes, plan, sessions_from};
 ghost use Rattle.sched_seed.specs.Transactions.{after_script};
 
 use crate::transaction::{numbered, script};
@@ -76,7 +76,7 @@ fn home(place: u32) -> NodeId
 /// A session, by its place from 0, with so many transactions.
 fn session(alloc: Global, place: u32, txs: u32, generator: &mut Lcg64Xsh32) -> Mem<Session>
     requires { place < 64 }
-    ensures value { IfOk result (λ s. s ≡ session place txs generator.old) }
+    ensures value { IfOk result (λ s. s ≡ generated_session place txs generator.old) }
     ensures rest { OnOk result (generator.new ≡ after_script txs generator.old) }
 {
     let name = numbered(alloc, b'S', place + 1)?;

@@ -1,7 +1,7 @@
 //! Generated transactions.
 
 ghost use Rattle.std.specs.Prelude.{◌≡◌, ◌∷◌, [], ◌++◌, ◌<◌, ◌≤◌, IfOk, OnOk};
-ghost use Rattle.sched_seed.specs.Transactions.{after_script, after_words, begin_of, key_of, moves, numbered, other_than, script, transaction, words_of};
+ghost use Rattle.sched_seed.specs.Transactions.{after_script, after_words, begin_of, moved_amount, numbered, numbered_key, other_than, script, transaction, words_of};
 
 use ignite_types::{Command, Item, Key, List, Mem, Mode, ShortText};
 use itoa::Buffer;
@@ -50,7 +50,7 @@ pub(crate) fn numbered(alloc: Global, letter: u8, number: u32) -> Mem<List<u8>>
 
 /// The key of a number.
 fn key_of(alloc: Global, number: u32) -> Mem<Key>
-    ensures { IfOk result (λ key. key ≡ key_of number) }
+    ensures { IfOk result (λ key. key ≡ numbered_key number) }
 {
     let bytes = numbered(alloc, b'k', number)?;
     let text = ShortText::new(bytes.as_slice());
@@ -79,7 +79,7 @@ fn other_than(from: u32, to: u32) -> u32
 
 /// Adds the commands that take an amount from one key and add it to another.
 fn push_moves(alloc: Global, commands: &mut List<Item>, from: u32, to: u32, amount: u32) -> Mem<()>
-    ensures { OnOk result (commands.new ≡ commands.old ++ moves from to amount) }
+    ensures { OnOk result (commands.new ≡ commands.old ++ moved_amount from to amount) }
 {
     let amount = i64::from(amount);
     let taken = Command::Add(key_of(alloc, from)?, -amount);

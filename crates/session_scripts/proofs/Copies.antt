@@ -4,7 +4,7 @@ use Rattle.std.specs.Cmp.{IsTotalOrder, then_total, on_total}
 use Rattle.std.proofs.lemmas.Cmp.{nat_cmp_total, nat_list_cmp_total}
 use Rattle.ignite_types.specs.Names.{key_cmp}
 use Rattle.ignite_types.specs.declared.text.Key.{Key}
-use Rattle.base_words.specs.declared.script.Range.{Range}
+use Rattle.part_model.specs.declared.script.Range.{Range}
 use Rattle.ordered_table.proofs.Copies as copies
 use Rattle.ordered_table.specs.Entries.{put}
 use Rattle.ordered_table.specs.Places.{IsAscending}

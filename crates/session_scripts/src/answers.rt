@@ -1,10 +1,10 @@
 //! What an answer of a plain command does to the item at hand.
 
 ghost use Rattle.std.specs.Prelude.{◌≡◌};
-ghost use Rattle.base_words.specs.Script.{answer_number, first_number, head_after, if_committed, item_end, number_between, offer_after, offer_end, or_undone, phase_after, poll_after, poll_end};
+ghost use Rattle.part_model.specs.Script.{answer_number, first_number, head_after, if_committed, item_end, number_between, offer_after, offer_end, phase_after, phase_or_undone, poll_after, poll_end};
 
 use crate::numbers::{number_of, number_value};
-use base_words::{Phase, Told};
+use part_model::{Phase, Told};
 use ignite_types::{Answer, Item};
 
 /// The number that was found.
@@ -92,7 +92,7 @@ fn poll_after(phase: &Phase, answer: &Answer) -> Option<Phase>
 }
 
 fn or_undone(answer: &Answer, next: &Option<Phase>) -> Phase
-    ensures { result ≡ or_undone answer.now next.now }
+    ensures { result ≡ phase_or_undone answer.now next.now }
 {
     match next {
         Some(next) => *next,

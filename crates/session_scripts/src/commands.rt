@@ -1,10 +1,10 @@
 //! The plain command that an item needs next.
 
 ghost use Rattle.std.specs.Prelude.{◌≡◌};
-ghost use Rattle.base_words.specs.Script.{command_at, command_of, offer_command, poll_command};
+ghost use Rattle.part_model.specs.Script.{command_at, command_of, offer_command, poll_command};
 
 use crate::keys::{head_key, item_key, tail_key};
-use base_words::{Phase, Progress};
+use part_model::{Phase, Progress};
 use ignite_types::{Command, Item, Key, Mode, Value};
 
 fn offer_command(object: &Key, value: &Value, phase: &Phase) -> Command

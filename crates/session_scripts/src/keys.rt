@@ -1,7 +1,7 @@
 //! The keys of a data object.
 
 ghost use Rattle.std.specs.Prelude.{◌≡◌, ◌≤◌, ◌∷◌, ◌++◌, length, take};
-ghost use Rattle.base_words.specs.Script.{head_key, item_key, own_key, tail_key};
+ghost use Rattle.part_model.specs.Script.{head_key, item_key, own_key, tail_key};
 
 use ignite_types::{KEY_BYTES, Key, ShortText};
 use itoa::Buffer;

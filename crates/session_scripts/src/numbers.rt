@@ -4,7 +4,7 @@ ghost use Rattle.std.specs.Prelude.{◌≡◌, ◌≤◌, ◌^◌, ◌+ℤ◌, l
 ghost use Rattle.std.specs.List.{list_all};
 ghost use Rattle.std.specs.Fmt.{signed_decimal};
 ghost use Rattle.std.specs.Str.Parse.{digits_value};
-ghost use Rattle.base_words.specs.Numbers.{added, below_zero, is_natural, natural, number_of, sum_in_64};
+ghost use Rattle.part_model.specs.Numbers.{below_zero, is_natural, natural, number_of, sum_in_64, sum_with_value};
 ghost use Rattle.ignite_types.specs.Texts.{is_digit};
 
 use ignite_types::{Answer, Value};
@@ -119,7 +119,7 @@ fn sum(number: i64, amount: i64) -> Result<Value, Answer>
 
 /// A number added to what is there: absent is 0.
 pub fn added(value: &Option<Value>, amount: i64) -> Result<Value, Answer>
-    ensures { result ≡ added value.now amount }
+    ensures { result ≡ sum_with_value value.now amount }
 {
     match value {
         None => Ok(number_value(amount)),

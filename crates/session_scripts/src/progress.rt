@@ -1,19 +1,19 @@
 //! How far a session comes in its script.
 
 ghost use Rattle.std.specs.Prelude.{◌≡◌, IfOk, OnOk};
-ghost use Rattle.base_words.specs.Script.{advance, passed_over};
+ghost use Rattle.part_model.specs.Script.{advance, advance_past_numbers};
 
 use crate::answers::{item_end, phase_after};
 use crate::numbers::number_value;
 use crate::ranges::{copied, keep_range, left_for, take_first};
-use base_words::{Phase, Progress, Told};
+use part_model::{Phase, Progress, Told};
 use ignite_types::{Answer, Item, List, Mem};
 use std::alloc::Global;
 
 /// Passes over the items that need no command, and tells their numbers.
 fn pass_over(items: &[Item], progress: &mut Progress, told: &mut List<Told>) -> Mem<()>
-    ensures progress { OnOk result (progress.new ≡ (passed_over items.now progress.old told.old).progress) }
-    ensures told { OnOk result (told.new ≡ (passed_over items.now progress.old told.old).told) }
+    ensures progress { OnOk result (progress.new ≡ (advance_past_numbers items.now progress.old told.old).progress) }
+    ensures told { OnOk result (told.new ≡ (advance_past_numbers items.now progress.old told.old).told) }
 {
     for item in items {
         let Some((object, range)) = left_for(item, &progress.ranges) else {

@@ -1,10 +1,10 @@
 //! The numbers that a session has left of a sequence.
 
 ghost use Rattle.std.specs.Prelude.{◌≡◌, IfOk, OnOk};
-ghost use Rattle.base_words.specs.Script.{left_for, range_of, ranges_after, unless_used_up, with_range, without_first};
+ghost use Rattle.part_model.specs.Script.{numbers_left_for, range_of, ranges_after, unless_used_up, with_range, without_first};
 
 use crate::answers::answer_number;
-use base_words::Range;
+use part_model::Range;
 use ignite_types::{Answer, Item, Key, Mem};
 use ordered_table::Table;
 use std::alloc::Global;
@@ -49,7 +49,7 @@ pub fn keep_range(item: &Item, ranges: &mut Table<Key, Range>, answer: &Answer) 
 
 /// The numbers that are left for an item that needs no command then.
 pub fn left_for(item: &Item, ranges: &Table<Key, Range>) -> Option<(Key, Range)>
-    ensures { result ≡ left_for item.now ranges.now }
+    ensures { result ≡ numbers_left_for item.now ranges.now }
 {
     let Item::Next(object) = item else {
         return None;

@@ -9,9 +9,9 @@ use Rattle.rand_pcg.specs.Lcg.{Lcg}
 use Rattle.sched_seed.specs.Picks.{after_pick, next_pick, pick, picker_at}
 use Rattle.sched_seed.proofs.PickLemmas.{picks_at}
 use Rattle.tx_model.specs.Opening.{opening}
-use Rattle.tx_model.specs.Runs.{after, IsPicked, IsStep, AreSteps, ArePicked}
+use Rattle.tx_model.specs.Runs.{ArePicked, AreSteps, IsPicked, IsStep, world_after}
 use Rattle.tx_model.specs.World.{World, outcome, possible}
-use Rattle.world_core.specs.Run.{Run, begun, stepped, KeepsPast}
+use Rattle.world_core.specs.Run.{KeepsPast, Run, run_after, run_begun}
 use Rattle.sim_top.specs.Drive.{PastFollows, Follows, Advances, AllPicked, Moves, counted, picks}
 use Rattle.sim_top.proofs.WorldLaws.{all_possible, enabled_of, may_be, no_memory_of, whole_after}
 
@@ -30,16 +30,16 @@ picked_passes p (y ∷ ys) zero x all at =
     subst (λ v. p v ≡ true) same (and_left (p y) (list_all p ys) all)
 picked_passes p (y ∷ ys) (suc i) x all at = picked_passes p ys i x (and_right (p y) (list_all p ys) all) at
 
-pub after_append : (w : World) (gs : List Group) (g : Group) → after w (gs ++ g ∷ []) ≡ (outcome (after w gs) g.event).world
+pub after_append : (w : World) (gs : List Group) (g : Group) → world_after w (gs ++ g ∷ []) ≡ (outcome (world_after w gs) g.event).world
 after_append w [] g = refl
 after_append w (h ∷ hs) g = after_append (outcome w h.event).world hs g
 
-pub steps_append : (w : World) (gs : List Group) (g : Group) → AreSteps w gs → IsStep (after w gs) g → AreSteps w (gs ++ g ∷ [])
+pub steps_append : (w : World) (gs : List Group) (g : Group) → AreSteps w gs → IsStep (world_after w gs) g → AreSteps w (gs ++ g ∷ [])
 steps_append w [] g steps step = (step, tt)
 steps_append w (h ∷ hs) g steps step = (steps.0, steps_append (outcome w h.event).world hs g steps.1 step)
 
 -- one more picked event behind the others, whose number counts these
-picked_append : (seed k n : ℕ) (w : World) (gs : List Group) (g : Group) → n ≡ k + length gs → AllPicked seed k w gs → IsPicked (picks seed n (length (possible (after w gs)))) (after w gs) g.event → AllPicked seed k w (gs ++ g ∷ [])
+picked_append : (seed k n : ℕ) (w : World) (gs : List Group) (g : Group) → n ≡ k + length gs → AllPicked seed k w gs → IsPicked (picks seed n (length (possible (world_after w gs)))) (world_after w gs) g.event → AllPicked seed k w (gs ++ g ∷ [])
 picked_append seed k n w [] g is all last = let e : n ≡ k = omega (arith, is) in (subst (λ (m : ℕ). IsPicked (picks seed m (length (possible w))) w g.event) e last, tt)
 picked_append seed k n w (h ∷ hs) g is all last =
     (all.0, picked_append seed (k + 1) n (outcome w h.event).world hs g (omega (arith, is)) all.1 last)
@@ -49,10 +49,10 @@ pub are_picked : (seed k : ℕ) (w : World) (gs : List Group) → AllPicked seed
 are_picked seed k w [] all = tt
 are_picked seed k w (g ∷ gs) all = (inl all.0, are_picked seed (k + 1) (outcome w g.event).world gs all.1)
 
-pub follows_begun : (seed : ℕ) (s : Scenario) → Follows seed (begun s)
+pub follows_begun : (seed : ℕ) (s : Scenario) → Follows seed (run_begun s)
 follows_begun seed s = record { past = record { steps = tt; picked = tt }; now = refl; whole = refl }
 
-pub follows_stepped : (seed k : ℕ) (r : Run) (e : Event) → length r.past ≡ k → Follows seed r → slice_get (possible r.now) (picks seed k (length (possible r.now))) ≡ Some e → Follows seed (stepped r e)
+pub follows_stepped : (seed k : ℕ) (r : Run) (e : Event) → length r.past ≡ k → Follows seed r → slice_get (possible r.now) (picks seed k (length (possible r.now))) ≡ Some e → Follows seed (run_after r e)
 follows_stepped seed k r e many h at =
     let g : Group = record { event = e; recs = (outcome r.now e).recs } in
     let may : may_be r.now e ≡ true = picked_passes (may_be r.now) (possible r.now) _ e (all_possible r.now) at in

@@ -3,13 +3,13 @@ use Rattle.std.proofs.Common.{◌≡◌, ◌≤◌, ◌&&◌, ℕ, Bool, true, f
 use Rattle.std.specs.Option.{option_map}
 use Rattle.std.specs.Str.Parse.{digits_value}
 use Rattle.std.proofs.lemmas.Bool.{leb-true, and_parts}
-use Rattle.command_words.specs.Line.{agree, asked_by, is_number, line, made, number, number_or}
+use Rattle.command_words.specs.Line.{agree, asked_by, is_number_text, line, made, number_in_range, number_or}
 use Rattle.command_words.specs.Line as words
 use Rattle.command_words.specs.Options as name
-use Rattle.command_words.specs.Options.{Given, Text, ◌>>=◌, options, stands, value_of}
+use Rattle.command_words.specs.Options.{Given, Text, is_given, options, value_given, ◌>>=◌}
 use Rattle.command_words.specs.declared.Make.{Make}
 use Rattle.command_words.specs.declared.SimWords.{SimWords}
-use Rattle.sim_top.specs.Asked.{HasRange, asked, made_or, options_from, read_form}
+use Rattle.sim_top.specs.Asked.{HasRange, made_or, options_asked, options_from, read_form}
 use Rattle.sim_top.specs.declared.options.Options.{Options}
 
 -- what a choice between something and nothing tells that came to something
@@ -25,9 +25,9 @@ map_some : {A B : Type 0} (f : A → B) (o : Option A) (y : B) → option_map f 
 map_some f None y h = absurd (cc)
 map_some f (Some x) y h = let same : f x ≡ y = cc in (x, refl, same)
 
-at_most : (least most : ℕ) (text : Text) (n : ℕ) → number least most text ≡ Some n → n ≤ most
+at_most : (least most : ℕ) (text : Text) (n : ℕ) → number_in_range least most text ≡ Some n → n ≤ most
 at_most least most text n h =
-    let chosen = if_some (is_number text && (nat_le least (digits_value 10 text) && nat_le (digits_value 10 text) most)) (digits_value 10 text) n h in
+    let chosen = if_some (is_number_text text && (nat_le least (digits_value 10 text) && nat_le (digits_value 10 text) most)) (digits_value 10 text) n h in
     let parts = and_parts _ _ chosen.0 in
     let ends = and_parts _ _ parts.1 in
     subst (λ k. k ≤ most) chosen.1 (leb-true _ _ ends.1)
@@ -43,12 +43,12 @@ made_range : (sessions txs : Option Text) (make : Make) → made sessions txs �
 made_range None None make h = absurd (cc)
 made_range None (Some txs) make h = absurd (cc)
 made_range (Some sessions) txs make h =
-    let count = bind_some (number 1 64 sessions) _ _ h in
+    let count = bind_some (number_in_range 1 64 sessions) _ _ h in
     let each = bind_some (number_or 20 1 100 txs) _ _ count.2 in
     let same : record { sessions = count.0; txs = each.0 } ≡ make = (let e = each.2 in cc) in
     subst InRange same (at_most 1 64 sessions count.0 count.1, at_most_or 20 1 100 txs each.0 (omega arith) each.1)
 
-asked_range : (seed steps make txs : Option Text) (trace json : Bool) (w : SimWords) (m : Make) → words.asked seed steps make txs trace json ≡ Some w → w.make ≡ Some m → InRange m
+asked_range : (seed steps make txs : Option Text) (trace json : Bool) (w : SimWords) (m : Make) → words.words_asked seed steps make txs trace json ≡ Some w → w.make ≡ Some m → InRange m
 asked_range seed steps make txs trace json w m h is =
     let first = bind_some (number_or 0 0 18446744073709551615 seed) _ w h in
     let most = bind_some (number_or 1000000 1 4000000 steps) _ w first.2 in
@@ -59,7 +59,7 @@ asked_range seed steps make txs trace json w m h is =
 
 given_range : (given : Given) (w : SimWords) (m : Make) → asked_by given ≡ Some w → w.make ≡ Some m → InRange m
 given_range given w m h is =
-    asked_range (value_of name.seed given) (value_of name.steps given) (value_of name.make given) (value_of name.txs given) (stands name.trace given) (stands name.json given) w m h is
+    asked_range (value_given name.seed given) (value_given name.steps given) (value_given name.make given) (value_given name.txs given) (is_given name.trace given) (is_given name.json given) w m h is
 
 line_range : (texts : List Text) (w : SimWords) (m : Make) → line texts ≡ Some w → w.make ≡ Some m → InRange m
 line_range texts w m h is = let given = bind_some (options [] None texts) asked_by w h in given_range given.0 w m given.2 is
@@ -74,7 +74,7 @@ form_range json trace None ranges = read_range json trace
 form_range json trace (Some m) ranges = ranges m refl
 
 -- what the words ask for has such a size
-pub asked_has_range : (texts : List Text) (o : Options) → asked texts ≡ Some o → HasRange o.form
+pub asked_has_range : (texts : List Text) (o : Options) → options_asked texts ≡ Some o → HasRange o.form
 asked_has_range texts o h =
     let found = map_some options_from (line texts) o h in
     let w = found.0 in

@@ -13,8 +13,8 @@ use Rattle.scen_text.specs.declared.cause.Cause.{Cause}
 use Rattle.scen_text.specs.declared.cause.Cause.TheVariants.{TooLong}
 use Rattle.std.proofs.lemmas.Bool.{lt-ltb}
 use Rattle.sim_top.specs.Sim.{IsRefused, LineSays, ReadSays, RefusalSays, Runs, RunSays, OutOfMemory, Follow, Means, Comes, Ends, Reading, Tells, Writing, SaysIn, usage_text}
-use Rattle.sim_top.specs.Asked.{asked}
-use Rattle.sim_top.specs.Told.{told_text}
+use Rattle.sim_top.specs.Asked.{options_asked}
+use Rattle.sim_top.specs.Told.{output_text}
 use Rattle.sim_top.specs.declared.options.Form.{Form}
 use Rattle.sim_top.specs.declared.options.Form.TheVariants as form
 use Rattle.sim_top.specs.declared.options.Options.{Options}
@@ -22,11 +22,11 @@ use Rattle.sim_top.specs.Drive.{Follows, PastFollows}
 use Rattle.sim_top.proofs.DriveLaws.{are_picked}
 use Rattle.tx_model.specs.Opening.{opening}
 use Rattle.tx_model.specs.Runs.{EndsAt}
-use Rattle.tx_model.specs.World.{World, all_over, possible}
+use Rattle.tx_model.specs.World.{World, all_sessions_over, possible}
 use Rattle.world_core.specs.Run.{Run}
 
 -- a run that is told is what it says
-pub runs_told : (o : Options) (s : Status) (j : Journal) (text : List ℕ) → Runs o s j → text ≡ told_text o j → RunSays o j.scenario s j text
+pub runs_told : (o : Options) (s : Status) (j : Journal) (text : List ℕ) → Runs o s j → text ≡ output_text o j → RunSays o j.scenario s j text
 runs_told o status.AllEnded j text runs said = (refl, runs, said)
 runs_told o status.Stalled j text runs said = (refl, runs, said)
 runs_told o status.StepLimit j text runs said = (refl, runs, said)
@@ -133,7 +133,7 @@ no_write_fault form.Json o r j text says = says
 no_write_fault (form.Summary make) o r j text says = says.says
 
 -- a call whose words ask for a run comes to what the run comes to
-pub asked_comes : (words : List (List ℕ)) (o : Options) (r : Reading) (s : Status) (j : Journal) (text : List ℕ) → asked words ≡ Some o → SaysIn o.form o r s j text → Comes words r s j text
+pub asked_comes : (words : List (List ℕ)) (o : Options) (r : Reading) (s : Status) (j : Journal) (text : List ℕ) → options_asked words ≡ Some o → SaysIn o.form o r s j text → Comes words r s j text
 asked_comes words o r status.AllEnded j text meant says = record { options = o; meant = meant; says = says }
 asked_comes words o r status.Stalled j text meant says = record { options = o; meant = meant; says = says }
 asked_comes words o r status.StepLimit j text meant says = record { options = o; meant = meant; says = says }
@@ -144,7 +144,7 @@ asked_comes words o r status.ReadFault j text meant says = record { options = o;
 asked_comes words o r status.WriteFault j text meant says = absurd (no_write_fault o.form o r j text says)
 
 -- a call of other words is told so
-pub usage_comes : (words : List (List ℕ)) (r : Reading) (s : Status) (j : Journal) (text : List ℕ) → asked words ≡ None → r.after ≡ r.before → r.faults_after ≡ r.faults_before → LineSays status.Usage usage_text s j text → Comes words r s j text
+pub usage_comes : (words : List (List ℕ)) (r : Reading) (s : Status) (j : Journal) (text : List ℕ) → options_asked words ≡ None → r.after ≡ r.before → r.faults_after ≡ r.faults_before → LineSays status.Usage usage_text s j text → Comes words r s j text
 usage_comes words r status.AllEnded j text none same same_faults says = absurd says
 usage_comes words r status.Stalled j text none same same_faults says = absurd says
 usage_comes words r status.StepLimit j text none same same_faults says = absurd says
@@ -171,10 +171,10 @@ limit_runs o r h met = (
   record { many = met.0; more = subst (λ (w : World). possible w ≢ []) h.now met.1 },
 )
 
-pub over_runs : (o : Options) (r : Run) → Follows o.seed r → possible r.now ≡ [] → all_over r.now ≡ true → Runs o status.AllEnded (ended r end.AllEnded)
+pub over_runs : (o : Options) (r : Run) → Follows o.seed r → possible r.now ≡ [] → all_sessions_over r.now ≡ true → Runs o status.AllEnded (ended r end.AllEnded)
 over_runs o r h none over = (follows_on o r end.AllEnded h (none, over, h.whole), refl)
 
-pub stalled_runs : (o : Options) (r : Run) → Follows o.seed r → possible r.now ≡ [] → all_over r.now ≡ false → Runs o status.Stalled (ended r end.Stalled)
+pub stalled_runs : (o : Options) (r : Run) → Follows o.seed r → possible r.now ≡ [] → all_sessions_over r.now ≡ false → Runs o status.Stalled (ended r end.Stalled)
 stalled_runs o r h none over = (follows_on o r end.Stalled h (none, over, h.whole), refl)
 
 -- a run for which memory ran out

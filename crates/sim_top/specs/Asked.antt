@@ -24,8 +24,8 @@ abbrev pub options_from : SimWords → Options
 options_from w = record { seed = w.seed; steps = w.steps; form = form_of w }
 
 -- what the words ask for, or none where they are no command line
-abbrev pub asked : List (List ℕ) → Option Options
-asked words = option_map options_from (line words)
+abbrev pub options_asked : List (List ℕ) → Option Options
+options_asked words = option_map options_from (line words)
 
 -- so many sessions and transactions as may be made up
 abbrev pub HasRange : Form → Type 0

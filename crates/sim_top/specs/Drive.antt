@@ -5,9 +5,9 @@ use Rattle.ignite_types.specs.declared.journal.Group.{Group}
 use Rattle.rand_pcg.specs.Lcg.{Lcg}
 use Rattle.sched_seed.specs.Picks.{after_pick, next_pick, pick}
 use Rattle.tx_model.specs.Opening.{opening}
-use Rattle.tx_model.specs.Runs.{AreSteps, IsPicked, after}
+use Rattle.tx_model.specs.Runs.{AreSteps, IsPicked, world_after}
 use Rattle.tx_model.specs.World.{World, outcome, possible}
-use Rattle.world_core.specs.Run.{Run, stepped}
+use Rattle.world_core.specs.Run.{Run, run_after}
 
 -- so many events as a pick counts: of more than 32 bits count only so many
 abbrev pub counted : ℕ → ℕ
@@ -30,14 +30,14 @@ pub record PastFollows (seed : ℕ) (r : Run) : Type 0 where
 -- and the world is the one after them, in which no memory was wanting
 pub record Follows (seed : ℕ) (r : Run) : Type 0 where
   pub past : PastFollows seed r
-  pub now : r.now ≡ after (opening r.scenario) r.past
+  pub now : r.now ≡ world_after (opening r.scenario) r.past
   pub whole : r.now.broken ≡ false
 
 -- one more event, the one that a picker in this state picks
 pub record Advances (picker : Option Lcg) (old new : Run) : Type 0 where
   pub event : Event
   pub picked : slice_get (possible old.now) (next_pick picker (counted (length (possible old.now)))) ≡ Some event
-  pub is : new ≡ stepped old event
+  pub is : new ≡ run_after old event
 
 -- no event is possible, and nothing has changed
 pub record Rests (old new : Run) : Type 0 where

@@ -13,14 +13,14 @@ use Rattle.scen_text.specs.Causes.{Refusal, refusal_text}
 use Rattle.scen_text.specs.declared.cause.Cause.{Cause}
 use Rattle.scen_text.specs.Reading.{scenario_of}
 use Rattle.sched_seed.specs.Generated.{generated}
-use Rattle.sim_top.specs.Asked.{asked}
+use Rattle.sim_top.specs.Asked.{options_asked}
 use Rattle.sim_top.specs.Drive.{picks}
-use Rattle.sim_top.specs.Told.{told_text}
+use Rattle.sim_top.specs.Told.{output_text}
 use Rattle.sim_top.specs.declared.options.Form.{Form}
 use Rattle.sim_top.specs.declared.options.Form.TheVariants as form
 use Rattle.sim_top.specs.declared.options.Options.{Options}
 use Rattle.tx_model.specs.Opening.{opening}
-use Rattle.tx_model.specs.Runs.{after, AreSteps, IsLegal, IsScheduled}
+use Rattle.tx_model.specs.Runs.{AreSteps, IsLegal, IsScheduled, world_after}
 use Rattle.tx_model.specs.World.{possible}
 
 abbrev pub usage_text : List ℕ
@@ -46,7 +46,7 @@ pub record Writing : Type 0 where
 -- the limit was met with another event possible
 pub record MetLimit (o : Options) (j : Journal) : Type 0 where
   pub many : length j.groups ≡ o.steps
-  pub more : possible (after (opening j.scenario) j.groups) ≢ []
+  pub more : possible (world_after (opening j.scenario) j.groups) ≢ []
 
 -- the journal is the machine's own, and follows the schedule of the seed
 pub record Follow (o : Options) (j : Journal) : Type 0 where
@@ -68,9 +68,9 @@ Runs o _ j = ⊥
 
 -- what a run of a scenario comes to: its report is to be written, unless memory ran out
 abbrev pub RunSays : Options → Scenario → Status → Journal → List ℕ → Type 0
-RunSays o s status.AllEnded j text = (j.scenario ≡ s) × Runs o status.AllEnded j × (text ≡ told_text o j)
-RunSays o s status.Stalled j text = (j.scenario ≡ s) × Runs o status.Stalled j × (text ≡ told_text o j)
-RunSays o s status.StepLimit j text = (j.scenario ≡ s) × Runs o status.StepLimit j × (text ≡ told_text o j)
+RunSays o s status.AllEnded j text = (j.scenario ≡ s) × Runs o status.AllEnded j × (text ≡ output_text o j)
+RunSays o s status.Stalled j text = (j.scenario ≡ s) × Runs o status.Stalled j × (text ≡ output_text o j)
+RunSays o s status.StepLimit j text = (j.scenario ≡ s) × Runs o status.StepLimit j × (text ≡ output_text o j)
 RunSays o s status.Memory j text = OutOfMemory o j text
 RunSays o s _ j text = ⊥
 
@@ -100,9 +100,9 @@ LineSays s said _ j text = ⊥
 
 -- what the bytes of a scenario come to
 abbrev pub Means : Options → List ℕ → Status → Journal → List ℕ → Type 0
-Means o bytes status.AllEnded j text = (scenario_of bytes ≡ Ok j.scenario) × Runs o status.AllEnded j × (text ≡ told_text o j)
-Means o bytes status.Stalled j text = (scenario_of bytes ≡ Ok j.scenario) × Runs o status.Stalled j × (text ≡ told_text o j)
-Means o bytes status.StepLimit j text = (scenario_of bytes ≡ Ok j.scenario) × Runs o status.StepLimit j × (text ≡ told_text o j)
+Means o bytes status.AllEnded j text = (scenario_of bytes ≡ Ok j.scenario) × Runs o status.AllEnded j × (text ≡ output_text o j)
+Means o bytes status.Stalled j text = (scenario_of bytes ≡ Ok j.scenario) × Runs o status.Stalled j × (text ≡ output_text o j)
+Means o bytes status.StepLimit j text = (scenario_of bytes ≡ Ok j.scenario) × Runs o status.StepLimit j × (text ≡ output_text o j)
 Means o bytes status.Refused j text = IsRefused bytes text × (j.groups ≡ [])
 Means o bytes status.Memory j text = OutOfMemory o j text
 Means o bytes _ j text = ⊥
@@ -118,7 +118,7 @@ pub record WasUsage (r : Reading) (j : Journal) (text : List ℕ) : Type 0 where
 pub record WasRead (o : Options) (r : Reading) (s : Status) (j : Journal) (text : List ℕ) : Type 0 where
   pub read_out : IsAtEnd r.after
   pub means : IfSome r.before (λ bytes. Means o bytes s j text)
-  pub runs : Runs o s j × (text ≡ told_text o j)
+  pub runs : Runs o s j × (text ≡ output_text o j)
 
 -- the text was refused: for its bytes, or for their number
 pub record WasRefused (r : Reading) (j : Journal) (text : List ℕ) : Type 0 where
@@ -156,12 +156,12 @@ SaysIn (form.Summary make) o r s j text = MadeUp o make r s j text
 -- the words ask for a run, and this is what it comes to
 pub record Asked (words : List (List ℕ)) (r : Reading) (s : Status) (j : Journal) (text : List ℕ) : Type 0 where
   pub options : Options
-  pub meant : asked words ≡ Some options
+  pub meant : options_asked words ≡ Some options
   pub says : SaysIn options.form options r s j text
 
 -- what a call comes to with these words, before it is written
 abbrev pub Comes : List (List ℕ) → Reading → Status → Journal → List ℕ → Type 0
-Comes words r status.Usage j text = (asked words ≡ None) × WasUsage r j text
+Comes words r status.Usage j text = (options_asked words ≡ None) × WasUsage r j text
 Comes words r status.Memory j text = Asked words r status.Memory j text ⊎ Tells [] j text
 Comes words r status.AllEnded j text = Asked words r status.AllEnded j text
 Comes words r status.Stalled j text = Asked words r status.Stalled j text

@@ -24,5 +24,5 @@ text_in seed j form.Json = history_json j.scenario (commits_of j)
 text_in seed j (form.Summary make) = summary j (made_by seed make) (outlook_of j) (commits_of j)
 
 -- what is to be written of a run
-abbrev pub told_text : Options → Journal → List ℕ
-told_text o j = text_in o.seed j o.form
+abbrev pub output_text : Options → Journal → List ℕ
+output_text o j = text_in o.seed j o.form

@@ -1,7 +1,7 @@
 //! What the words of the command line ask of a run.
 
 ghost use Rattle.std.specs.Prelude.{◌≡◌, map, string_bytes, IfOk, Some, None, Err};
-ghost use Rattle.sim_top.specs.Asked.{asked, form_of, options_from};
+ghost use Rattle.sim_top.specs.Asked.{form_of, options_asked, options_from};
 
 use command_words::{Make, SimWords, WordsFault, sim_words};
 use std::alloc::Global;
@@ -50,8 +50,8 @@ fn form_of(words: &SimWords) -> Form
 
 /// What the words ask for.
 pub fn options_of(alloc: Global, words: &[String]) -> Result<Options, WordsFault>
-    ensures ok { IfOk result (λ options. asked (map string_bytes words.now) ≡ Some options) }
-    ensures usage { result ≡ Err WordsFault.Usage → asked (map string_bytes words.now) ≡ None }
+    ensures ok { IfOk result (λ options. options_asked (map string_bytes words.now) ≡ Some options) }
+    ensures usage { result ≡ Err WordsFault.Usage → options_asked (map string_bytes words.now) ≡ None }
 {
     let asked = sim_words(alloc, words)?;
     Ok(Options {

@@ -3,10 +3,10 @@
 ghost use Rattle.std.specs.Prelude.{◌≡◌, ◌≢◌, ◌≤◌, [], length, map, string_bytes, IfOk, MatchBool};
 ghost use Rattle.sched_seed.specs.Generated.{generated};
 ghost use Rattle.sim_top.specs.Drive.{Follows};
-ghost use Rattle.sim_top.specs.Told.{made_by, told_text};
+ghost use Rattle.sim_top.specs.Told.{made_by, output_text};
 ghost use Rattle.tx_model.specs.Outlooks.{outlook_of};
 ghost use Rattle.tx_model.specs.World.{possible};
-ghost use Rattle.world_core.specs.Run.{begun};
+ghost use Rattle.world_core.specs.Run.{run_begun};
 ghost use Rattle.sim_top.specs.Asked.{HasRange};
 ghost use Rattle.sim_top.specs.Sim.{Comes, SaysIn, LineSays, Means, ReadSays, RefusalSays, RunSays, Runs, read_fault_text, usage_text};
 
@@ -71,7 +71,7 @@ fn out_of_memory(alloc: Global, journal: Journal) -> Said
 /// What is to be written of a journal, whose world shows this at its end.
 fn text_of(alloc: Global, journal: &Journal, shown: &Outlook, options: Options) -> Mem<Vec<u8>>
     requires { shown.now ≡ outlook_of journal.now }
-    ensures { IfOk result (λ text. text.items ≡ told_text options journal.now) }
+    ensures { IfOk result (λ text. text.items ≡ output_text options journal.now) }
 {
     let entries = commits(alloc, journal)?;
     let entries = entries.as_slice();
@@ -138,7 +138,7 @@ fn tell_world(alloc: Global, world: World, more: bool, options: Options) -> Said
 
 /// What a run comes to from its opening world on.
 fn run_world(alloc: Global, world: World, options: Options) -> Said
-    requires { world ≡ begun world.scenario }
+    requires { world ≡ run_begun world.scenario }
     ensures { RunSays options world.scenario result.status result.journal result.text.items }
 {
     let mut world = world;

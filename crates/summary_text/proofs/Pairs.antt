@@ -11,9 +11,9 @@ use Rattle.std.specs.Ordering.{match_ordering, nat_cmp}
 use Rattle.std.specs.Cmp.Lexicographic.{slice_cmp}
 use Rattle.std.specs.declared.cmp.Ordering.{Ordering}
 use Rattle.std.specs.declared.cmp.Ordering.TheVariants.{Less, Equal, Greater}
-use Rattle.summary_text.specs.Json.{by_text, changes_data, characters, commit_data, commits_data, history_data, pair_data, pairs, present, value_data}
+use Rattle.summary_text.specs.Json.{by_text, changes_data, characters, commit_data, commits_data, history_data, pair_data, pairs, present_pairs, value_data}
 use Rattle.scen_text.specs.Items.{key_text}
-use Rattle.tx_model.specs.History.{map_after}
+use Rattle.tx_model.specs.History.{map_after_commits}
 use Rattle.tx_model.specs.declared.history.CommitEntry.{CommitEntry}
 
 -- the pair of an entry
@@ -93,4 +93,4 @@ commits_plain s [] = refl
 commits_plain s (e ∷ es) = or_from _ _ (commit_plain s e) (commits_plain s es)
 
 pub history_plain : (s : Scenario) (commits : List CommitEntry) → has_float (history_data s commits) ≡ false
-history_plain s commits = or_from _ _ (commits_plain s commits) (or_from _ _ (changes_plain s (present (map_after [] commits))) refl)
+history_plain s commits = or_from _ _ (commits_plain s commits) (or_from _ _ (changes_plain s (present_pairs (map_after_commits [] commits))) refl)

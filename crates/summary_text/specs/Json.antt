@@ -6,7 +6,7 @@ use Rattle.report_text.specs.Answers.{top_text, tx_text}
 use Rattle.scen_text.specs.Items.{key_text}
 use Rattle.serde_json.specs.Data.{Data, Items, Members, array, item, member, no_items, no_members, null, object, put, string}
 use Rattle.serde_json.specs.Written.{compact_text}
-use Rattle.tx_model.specs.History.{Map, map_after}
+use Rattle.tx_model.specs.History.{Map, map_after_commits}
 use Rattle.tx_model.specs.declared.history.CommitEntry.{CommitEntry}
 
 -- each byte as the character of its number: what a scenario names has bytes below 128, which stay as they are
@@ -48,15 +48,15 @@ commits_data s [] = no_items
 commits_data s (e ∷ es) = item (commit_data s e) (commits_data s es)
 
 -- an entry of the map, as what is at its key
-abbrev pub present : Map → List (Key × Option (List ℕ))
-present [] = []
-present (e ∷ es) = (e.0, Some e.1) ∷ present es
+abbrev pub present_pairs : Map → List (Key × Option (List ℕ))
+present_pairs [] = []
+present_pairs (e ∷ es) = (e.0, Some e.1) ∷ present_pairs es
 
 -- the history, and the map after it, stopped caches included
 abbrev pub history_data : Scenario → List CommitEntry → Data
 history_data s commits = object
     (member (codes "history") (array (commits_data s commits))
-    (member (codes "map") (changes_data s (present (map_after [] commits))) no_members))
+    (member (codes "map") (changes_data s (present_pairs (map_after_commits [] commits))) no_members))
 
 -- the compact text, and a line feed
 abbrev pub history_json : Scenario → List CommitEntry → List ℕ

@@ -150,7 +150,7 @@ fn commits_json(alloc: Global, scenario: &Scenario, commits: &[CommitEntry]) -> 
 
 /// The entries of a map, as what is at their keys.
 fn present(alloc: Global, entries: &[(Key, Bytes)]) -> Mem<List<(Key, Option<Bytes>)>>
-    ensures { IfOk result (λ changes. changes ≡ json.present entries.now) }
+    ensures { IfOk result (λ changes. changes ≡ json.present_pairs entries.now) }
 {
     let mut changes = List::new(alloc);
     for entry in entries {
@@ -161,7 +161,7 @@ fn present(alloc: Global, entries: &[(Key, Bytes)]) -> Mem<List<(Key, Option<Byt
 
 /// The map that the commits leave, as a list of pairs.
 fn map_json(alloc: Global, scenario: &Scenario, commits: &[CommitEntry]) -> Mem<Value>
-    ensures { IfOk result (λ list. view list ≡ json.changes_data scenario.now (json.present (history.map_after [] commits.now))) }
+    ensures { IfOk result (λ list. view list ≡ json.changes_data scenario.now (json.present_pairs (history.map_after_commits [] commits.now))) }
 {
     let map = map_after(alloc, commits)?;
     let changes = present(alloc, map.as_slice())?;

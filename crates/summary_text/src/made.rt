@@ -1,12 +1,12 @@
 //! The summary of a run whose scenario was made up.
 
 ghost use Rattle.std.specs.Prelude.{◌≡◌, [], ◌++◌, decimal, pos, IfOk, OnOk};
-ghost use Rattle.base_words.specs.Numbers.{number_of};
-ghost use Rattle.base_words.specs.Script.{no_progress};
+ghost use Rattle.part_model.specs.Numbers.{number_of};
+ghost use Rattle.part_model.specs.Script.{no_progress};
 ghost use Rattle.report_text.specs.Sessions as sessions;
 ghost use Rattle.summary_text.specs.Summary as summaries;
 
-use base_words::Told;
+use part_model::Told;
 use ignite_types::{Answer, Command, Item, Journal, Key, List, Mem, Session, Value};
 use report_text::{
     Given, all_told, answers_to, digest_of, end_status, shown_map, write_count, write_top_line,
@@ -26,14 +26,14 @@ pub struct Made {
 
 /// Whether the item is a commit command.
 fn is_commit(item: &Item) -> bool
-    ensures { result ≡ summaries.is_commit item.now }
+    ensures { result ≡ summaries.is_commit_item item.now }
 {
     matches!(item, Item::Plain(Command::Commit))
 }
 
 /// Whether it was told that its transaction is committed.
 fn is_committed(told: &Told) -> bool
-    ensures { result ≡ summaries.is_committed told.now }
+    ensures { result ≡ summaries.is_committed_told told.now }
 {
     matches!(told, Told::Plain(Answer::Committed))
 }
@@ -56,7 +56,7 @@ fn commits_told(alloc: Global, script: &[Item], tolds: &[Told]) -> Mem<List<Told
 
 /// What the commit commands of a session were told, which has this number.
 fn session_told(alloc: Global, given: &[Given], number: usize, session: &Session) -> Mem<List<Told>>
-    ensures { IfOk result (λ found. found ≡ summaries.commits_told session.now.commands (sessions.all_told session.now.commands no_progress (sessions.answers_to number given.now))) }
+    ensures { IfOk result (λ found. found ≡ summaries.commits_told session.now.commands (sessions.all_told session.now.commands no_progress (sessions.answers_given_to number given.now))) }
 {
     let answers = answers_to(alloc, number, given)?;
     let tolds = all_told(alloc, session.commands.as_slice(), answers.as_slice())?;
@@ -76,7 +76,7 @@ fn sessions_told(alloc: Global, given: &[Given], sessions: &[Session]) -> Mem<Li
 
 /// How many were told that their transaction is committed.
 fn committed(tolds: &[Told]) -> usize
-    ensures { result ≡ summaries.committed tolds.now }
+    ensures { result ≡ summaries.committed_count tolds.now }
 {
     tolds.iter().filter(|told| is_committed(told)).count()
 }
@@ -136,7 +136,7 @@ fn write_made(out: &mut TextOut, made: Made) -> Mem<()>
 
 /// Writes how many transactions were committed, and how many were not.
 fn write_told(out: &mut TextOut, tolds: &[Told]) -> Mem<()>
-    ensures { OnOk result (out.new ≡ out.old ++ summaries.told_lines tolds.now) }
+    ensures { OnOk result (out.new ≡ out.old ++ summaries.summary_told_lines tolds.now) }
 {
     write_count(out, "committed", committed(tolds) as u64)?;
     write_count(out, "failed", failed(tolds) as u64)

@@ -6,7 +6,7 @@ use Rattle.std.proofs.lemmas.Bool.{and_parts, or_right}
 use Rattle.std.proofs.lemmas.List.{map-append}
 use Rattle.std.proofs.lemmas.List.Concat.{flat_map-append}
 use Rattle.std.proofs.lemmas.List.Folds.{list_any-append}
-use Rattle.ignite_types.specs.Good.{is_within, has_member}
+use Rattle.ignite_types.specs.Good.{has_member, is_within}
 use Rattle.ignite_types.specs.declared.names.NodeId.{NodeId}
 use Rattle.ignite_types.specs.declared.scenario.Member.{Member}
 use Rattle.ignite_types.specs.declared.scenario.PlanStep.{PlanStep}
@@ -15,7 +15,7 @@ use Rattle.ignite_types.specs.declared.scenario.Step.{Step}
 use Rattle.ignite_types.specs.declared.scenario.Step.TheVariants as step
 use Rattle.scen_text.specs.declared.line.Line.{Line}
 use Rattle.scen_text.specs.Known.{is_named}
-use Rattle.scen_text.specs.Meaning.{line_of}
+use Rattle.scen_text.specs.Meaning.{line_meant}
 use Rattle.scen_text.specs.Reading.{named_by, named_in}
 use Rattle.text_laws.proofs.Lines.{member_words, planned_words}
 use Rattle.text_laws.proofs.Means.{Meant, member_meant, join_meant}
@@ -32,17 +32,17 @@ either xs ys n = list_any-append (λ known. known.0 == n.0) xs ys
 pub names-append : (xs ys : List (List (List ℕ))) (n : NodeId) → names (xs ++ ys) n ≡ (names xs n || names ys n)
 names-append xs ys n =
     ap (λ ls. is_named (named_in ls) n) (map-append spaced xs ys)
-    ∙ (ap (λ all. is_named all n) (flat_map-append (λ bytes. named_by (line_of 1 bytes)) (map spaced xs) (map spaced ys)) ∙ either (named_in (map spaced xs)) (named_in (map spaced ys)) n)
+    ∙ (ap (λ all. is_named all n) (flat_map-append (λ bytes. named_by (line_meant 1 bytes)) (map spaced xs) (map spaced ys)) ∙ either (named_in (map spaced xs)) (named_in (map spaced ys)) n)
 
-named_meant : (ws : List (List ℕ)) (l : Line) → Meant 1 ws l → named_by (line_of 1 (spaced ws)) ≡ named_by (Ok l)
+named_meant : (ws : List (List ℕ)) (l : Line) → Meant 1 ws l → named_by (line_meant 1 (spaced ws)) ≡ named_by (Ok l)
 named_meant ws l m = ap named_by (line_of-spaced 1 ws m.line ∙ m.means)
 
 -- the first line names the node, or the others do
-first_names : (ws : List (List ℕ)) (ls : List (List (List ℕ))) (m n : NodeId) → named_by (line_of 1 (spaced ws)) ≡ m ∷ [] → ((m.0 == n.0) || names ls n) ≡ true → names (ws ∷ ls) n ≡ true
+first_names : (ws : List (List ℕ)) (ls : List (List (List ℕ))) (m n : NodeId) → named_by (line_meant 1 (spaced ws)) ≡ m ∷ [] → ((m.0 == n.0) || names ls n) ≡ true → names (ws ∷ ls) n ≡ true
 first_names ws ls m n is h = ap (λ first. is_named (first ++ named_in (map spaced ls)) n) is ∙ h
 
 later_names : (ws : List (List ℕ)) (ls : List (List (List ℕ))) (n : NodeId) → names ls n ≡ true → names (ws ∷ ls) n ≡ true
-later_names ws ls n h = either (named_by (line_of 1 (spaced ws))) (named_in (map spaced ls)) n ∙ or_right (is_named (named_by (line_of 1 (spaced ws))) n) (names ls n) h
+later_names ws ls n h = either (named_by (line_meant 1 (spaced ws))) (named_in (map spaced ls)) n ∙ or_right (is_named (named_by (line_meant 1 (spaced ws))) n) (names ls n) h
 
 one_or_more : (a b c : Bool) → (a || b) ≡ true → (b ≡ true → c ≡ true) → (a || c) ≡ true
 one_or_more true b c h f = refl

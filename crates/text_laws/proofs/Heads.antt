@@ -5,7 +5,7 @@ use Rattle.std.specs.Cmp.Lexicographic.{bytes_decides}
 use Rattle.std.specs.List.{list_all, list_any}
 use Rattle.std.proofs.lemmas.Bool.{and_parts, leb-true, lt-ltb, le-leb, not-true, cond-true, cond-false, and_left, not_from_true}
 use Rattle.std.proofs.lemmas.List.Sums.{sum_by-cons}
-use Rattle.ignite_types.specs.Good.{is_within, are_distinct, good_cache, in_order, has_cache_line, has_data_line, is_started, same_cache_name, same_node, is_default, has_member}
+use Rattle.ignite_types.specs.Good.{are_distinct, good_cache, has_cache_line, has_data_line, has_member, in_order, is_default, is_started, is_within, same_cache_name, same_member_node}
 use Rattle.ignite_types.specs.declared.names.NodeId.{NodeId}
 use Rattle.ignite_types.specs.declared.scenario.Cache.{Cache}
 use Rattle.ignite_types.specs.declared.scenario.Member.{Member}
@@ -14,16 +14,16 @@ use Rattle.scen_text.specs.declared.line.Line.TheVariants as line
 use Rattle.scen_text.specs.declared.line.Setting.TheVariants as setting
 use Rattle.scen_text.specs.declared.place.Place.{Place}
 use Rattle.scen_text.specs.declared.place.Place.TheVariants as place
-use Rattle.scen_text.specs.Drafts.{empty, with_setting, with_cache, with_member}
-use Rattle.scen_text.specs.Known.{has_cache, cache_line_place}
-use Rattle.scen_text.specs.Places.{rank, stands}
+use Rattle.scen_text.specs.Drafts.{draft_with_member, empty, with_cache, with_setting}
+use Rattle.scen_text.specs.Known.{cache_line_place, has_cache}
+use Rattle.scen_text.specs.Places.{may_follow, rank}
 use Rattle.text_laws.proofs.Lines.{shape_words, cache_lines, setting_words, first_lines, member_words}
 use Rattle.text_laws.proofs.Caches.{new_one}
 use Rattle.text_laws.proofs.Means.{Meant, cache_fits, words_of, head_meant, second_meant, parts_meant, backups_meant, near_meant, cache_meant, data_meant, member_meant, within_most}
 use Rattle.text_laws.proofs.Taken.{taken, all_taken, taken_first, taken_meant}
 
 -- what may stand behind a place may stand behind those after it
-pub stands_later : (last a b : Place) → nat_le (rank a) (rank b) ≡ true → stands last a ≡ true → stands last b ≡ true
+pub stands_later : (last a b : Place) → nat_le (rank a) (rank b) ≡ true → may_follow last a ≡ true → may_follow last b ≡ true
 stands_later last a b h s =
     let parts = and_parts (nat_le 1 (rank last)) (nat_le (rank last) (rank a)) s in
     let low = leb-true _ _ parts.1 in
@@ -38,7 +38,7 @@ pub record CachesTaken (d : Draft) (cs : List Cache) : Type 0 where
   pub took : all_taken d (flat_map cache_lines cs) ≡ Ok next
   pub format : next.format ≡ d.format
   pub named : next.named ≡ d.named
-  pub stands : stands next.place place.Nodes ≡ true
+  pub stands : may_follow next.place place.Nodes ≡ true
   pub caches : next.caches ≡ d.caches ++ filter (λ cache. cache.first) cs
   pub sum : next.partitions + sum_by (λ cache. cache.parts) (filter is_started cs) ≤ 1024
   pub nodes : next.nodes ≡ d.nodes
@@ -54,7 +54,7 @@ with_line d is_data c = record d { place = cache_line_place is_data; caches = d.
 same_cache : (c : Cache) (f d : Bool) → c.first ≡ f → c.«data» ≡ d → record c { first = f; «data» = d } ≡ c
 same_cache c f d p q = λ i. record c { first = sym p i; «data» = sym q i }
 
-cache_step : (d : Draft) (c : Cache) (is_data : Bool) → c.first ≡ true → c.«data» ≡ is_data → stands d.place (cache_line_place is_data) ≡ true → good_cache c ≡ true
+cache_step : (d : Draft) (c : Cache) (is_data : Bool) → c.first ≡ true → c.«data» ≡ is_data → may_follow d.place (cache_line_place is_data) ≡ true → good_cache c ≡ true
     → length d.caches < 8 → d.partitions + c.parts ≤ 1024 → has_cache d.caches c.name ≡ false → with_cache d is_data (words_of c) ≡ Ok (with_line d is_data c)
 cache_step d c is_data first kind st g few sum new =
     let h = cache_fits c g in
@@ -98,7 +98,7 @@ line_kind c more h = by c.first c.«data» refl refl h
 
 -- the lines of these caches are taken by each draft that they fit
 abbrev TakesCaches : List Cache → Type 0
-TakesCaches cs = (d : Draft) → d.format ≡ 2 → stands d.place place.Data ≡ true → (list_any has_cache_line cs ≡ true → stands d.place place.Caches ≡ true)
+TakesCaches cs = (d : Draft) → d.format ≡ 2 → may_follow d.place place.Data ≡ true → (list_any has_cache_line cs ≡ true → may_follow d.place place.Caches ≡ true)
     → in_order cs ≡ true → list_all good_cache cs ≡ true → are_distinct same_cache_name (d.caches ++ cs) ≡ true → length (d.caches ++ cs) ≤ 8
     → d.partitions + sum_by (λ cache. cache.parts) cs ≤ 1024 → CachesTaken d cs
 
@@ -155,7 +155,7 @@ caches_taken (c ∷ cs) d two st lined order good distinct few sum =
     by go (inl h) order g goods =
         let first = h.first in
         let plain = h.plain in
-        let here : stands d.place place.Caches ≡ true = lined (rw (first, plain) refl) in
+        let here : may_follow d.place place.Caches ≡ true = lined (rw (first, plain) refl) in
         let means : Meant d.format (codes "cache" ∷ shape_words c) (line.Cache false (words_of c)) = rw two (cache_meant c g) in
         let one = taken_meant d _ _ means ∙ cache_step d c false first plain here g few_now sum_now new in
         behind false first (rw (first, plain) refl) one
@@ -192,7 +192,7 @@ pub record HeadTaken (lines : List (List (List ℕ))) (f : ℕ) (cs : List Cache
   pub took : all_taken (empty called) lines ≡ Ok next
   pub format : next.format ≡ f
   pub named : next.named ≡ called
-  pub stands : stands next.place place.Nodes ≡ true
+  pub stands : may_follow next.place place.Nodes ≡ true
   pub caches : next.caches ≡ filter (λ cache. cache.first) cs
   pub sum : next.partitions + sum_by (λ cache. cache.parts) (filter is_started cs) ≤ 1024
   pub nodes : next.nodes ≡ []
@@ -300,7 +300,7 @@ pub record NodesTaken (d : Draft) (ms : List Member) : Type 0 where
   pub took : all_taken d (map member_words ms) ≡ Ok next
   pub format : next.format ≡ d.format
   pub named : next.named ≡ d.named
-  pub stands : stands next.place place.Plan ≡ true
+  pub stands : may_follow next.place place.Plan ≡ true
   pub caches : next.caches ≡ d.caches
   pub partitions : next.partitions ≡ d.partitions
   pub nodes : next.nodes ≡ d.nodes ++ ms
@@ -312,12 +312,12 @@ pub record NodesTaken (d : Draft) (ms : List Member) : Type 0 where
 abbrev with_node : Draft → Member → Draft
 with_node d m = record d { place = place.Nodes; nodes = d.nodes ++ m ∷ []; members = d.members ++ m ∷ [] }
 
-member_step : (d : Draft) (m : Member) → stands d.place place.Nodes ≡ true → is_within 1 99 m.node.0 ≡ true → length d.members < 16 → has_member d.members m.node ≡ false
-    → with_member d m ≡ Ok (with_node d m)
+member_step : (d : Draft) (m : Member) → may_follow d.place place.Nodes ≡ true → is_within 1 99 m.node.0 ≡ true → length d.members < 16 → has_member d.members m.node ≡ false
+    → draft_with_member d m ≡ Ok (with_node d m)
 member_step d m st within few new = rw (st, within, lt-ltb _ 16 few, new) refl
 
-pub nodes_taken : (ms : List Member) (d : Draft) → stands d.place place.Nodes ≡ true → list_all (λ member. is_within 1 99 member.node.0) ms ≡ true
-    → are_distinct same_node (d.members ++ ms) ≡ true → length (d.members ++ ms) ≤ 16 → NodesTaken d ms
+pub nodes_taken : (ms : List Member) (d : Draft) → may_follow d.place place.Nodes ≡ true → list_all (λ member. is_within 1 99 member.node.0) ms ≡ true
+    → are_distinct same_member_node (d.members ++ ms) ≡ true → length (d.members ++ ms) ≤ 16 → NodesTaken d ms
 nodes_taken [] d st within distinct few = record {
   next = d;
   took = refl;
@@ -335,7 +335,7 @@ nodes_taken [] d st within distinct few = record {
 nodes_taken (m ∷ ms) d st within distinct few =
     let parts = and_parts (is_within 1 99 m.node.0) (list_all (λ member. is_within 1 99 member.node.0) ms) within in
     let few_now : length d.members < 16 = omega (arith, few, length-append d.members (m ∷ ms)) in
-    let one = taken_meant d _ _ (member_meant d.format m.node.0 m.server parts.0) ∙ member_step d m st parts.0 few_now (new_one same_node d.members m ms distinct) in
+    let one = taken_meant d _ _ (member_meant d.format m.node.0 m.server parts.0) ∙ member_step d m st parts.0 few_now (new_one same_member_node d.members m ms distinct) in
     let more = nodes_taken ms (with_node d m) refl parts.1 (rw (append_assoc d.members (m ∷ []) ms) distinct) (rw (append_assoc d.members (m ∷ []) ms) few) in
     record {
       next = more.next;

@@ -3,7 +3,7 @@ use Rattle.std.proofs.Common.{◌≡◌, ℕ, ◌<◌, ◌≤◌, Bool, true, fa
 use Rattle.std.specs.Prelude.{◌&&◌, ℤ, nat_le, codes, decimal, Some, Ok}
 use Rattle.std.specs.Fmt.{signed_decimal}
 use Rattle.std.proofs.lemmas.Bool.{and_parts, leb-true}
-use Rattle.ignite_types.specs.Good.{is_within, is_name, good_cache, good_value}
+use Rattle.ignite_types.specs.Good.{good_cache, good_value, is_name, is_within}
 use Rattle.ignite_types.specs.declared.scenario.Cache.{Cache}
 use Rattle.ignite_types.specs.declared.scenario.Command.TheVariants as command
 use Rattle.ignite_types.specs.declared.scenario.Mode.{Mode}

@@ -5,9 +5,9 @@ use Rattle.std.specs.List.{list_all, position_or_len}
 use Rattle.std.proofs.lemmas.Bool.{and_parts, and_from, leb-true, lt-ltb, le-ltb, le-leb, ne_eqb}
 use Rattle.std.proofs.lemmas.Bool.Decides.{nat_tests}
 use Rattle.std.proofs.lemmas.List.{take_at}
-use Rattle.ignite_types.specs.Good.{is_within, is_text, is_name, is_name_byte}
+use Rattle.ignite_types.specs.Good.{is_name, is_name_byte, is_text, is_within}
 use Rattle.ignite_types.specs.Texts.{is_key_byte, is_value_byte, first_bad, text_of}
-use Rattle.scen_text.specs.Words.{name, object, key, value, at_slash, is_slash, has_bytes}
+use Rattle.scen_text.specs.Words.{at_slash, has_bytes, is_slash, key_of_word, name, object, value_of_word}
 use Rattle.text_laws.proofs.Split.{is_word, is_word_byte, weaker, both_all}
 
 -- what is known of a text of one form
@@ -100,10 +100,10 @@ text_read most allowed w f =
     let few : nat_lt most (length w) ≡ false = le-ltb most (length w) f.few in
     rw (some, few) (rw (none_bad allowed w f.all) refl)
 
-pub key-read : (w : List ℕ) → is_text is_key_byte 32 w ≡ true → key w ≡ Ok (Some (record { cache = 0; text = w }))
+pub key-read : (w : List ℕ) → is_text is_key_byte 32 w ≡ true → key_of_word w ≡ Ok (Some (record { cache = 0; text = w }))
 key-read w h = rw (text_read 32 is_key_byte w (formed is_key_byte 32 w h)) refl
 
-pub value-read : (w : List ℕ) → is_text is_value_byte 64 w ≡ true → value w ≡ Ok (Some w)
+pub value-read : (w : List ℕ) → is_text is_value_byte 64 w ≡ true → value_of_word w ≡ Ok (Some w)
 value-read w h = rw (text_read 64 is_value_byte w (formed is_value_byte 64 w h)) refl
 
 -- a slash

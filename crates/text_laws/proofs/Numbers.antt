@@ -9,7 +9,7 @@ use Rattle.std.proofs.lemmas.Bool.Decides.{nat_tests}
 use Rattle.std.proofs.lemmas.Fmt.{decimal_is_IsNumeral, length-decimal-le, first_decimal}
 use Rattle.std.proofs.lemmas.Str.Parse.{digit_from_value}
 use Rattle.ignite_types.specs.Texts.{is_digit}
-use Rattle.scen_text.specs.Words.{number, natural, below_zero, integer}
+use Rattle.scen_text.specs.Words.{integer, natural_of_word, negated, number_of_word}
 use Rattle.text_laws.specs.RoundTrip.{is_long}
 use Rattle.text_laws.proofs.Split.{is_word, is_word_byte, weaker}
 
@@ -40,7 +40,7 @@ digits_word n (b ∷ w) h = weaker is_digit is_word_byte digit_word (b ∷ w) h.
 pub decimal-word : (n : ℕ) → n < 10000000 → is_word (decimal n) ≡ true
 decimal-word n h = digits_word n (decimal n) (spells-decimal n (omega arith))
 
-pub number-decimal : (n : ℕ) → n < 10000000 → number (decimal n) ≡ Ok n
+pub number-decimal : (n : ℕ) → n < 10000000 → number_of_word (decimal n) ≡ Ok n
 number-decimal n h =
     let s = spells-decimal n (omega arith) in
     let short : nat_le (length (decimal n)) 7 ≡ true = le-leb _ 7 (length-decimal-le 7 n (lit< tt) h (omega arith)) in
@@ -50,7 +50,7 @@ number-decimal n h =
     rw (some, short, all, value) refl
 
 -- digits with no 0 in front
-naturals : (most n : ℕ) (w : List ℕ) → Spells n w → 48 < get_or w 0 0 → length w ≤ 19 → n ≤ most → natural most w ≡ Ok n
+naturals : (most n : ℕ) (w : List ℕ) → Spells n w → 48 < get_or w 0 0 → length w ≤ 19 → n ≤ most → natural_of_word most w ≡ Ok n
 naturals most n [] s f l m = absurd (omega (arith, f))
 naturals most n (b ∷ w) s f l m =
     let other : (b == 48) ≡ false = ne_eqb b 48 (λ e. omega (arith, f)) in
@@ -60,12 +60,12 @@ naturals most n (b ∷ w) s f l m =
     let value = s.value in
     rw (other, short, all) (rw value (rw within refl))
 
-natural-decimal : (most n : ℕ) → 0 < n → n ≤ most → most < 10000000000000000000 → natural most (decimal n) ≡ Ok n
+natural-decimal : (most n : ℕ) → 0 < n → n ≤ most → most < 10000000000000000000 → natural_of_word most (decimal n) ≡ Ok n
 natural-decimal most n p m l =
     naturals most n (decimal n) (spells-decimal n (omega arith)) (first_decimal n p (omega arith)) (length-decimal-le 19 n (lit< tt) (omega arith) (omega arith)) m
 
 -- a number from 1 on is read as a natural number
-positive : (w : List ℕ) (n : ℕ) → 48 < get_or w 0 0 → list_all is_digit w ≡ true → natural 9223372036854775807 w ≡ Ok n → integer w ≡ Ok (pos n)
+positive : (w : List ℕ) (n : ℕ) → 48 < get_or w 0 0 → list_all is_digit w ≡ true → natural_of_word 9223372036854775807 w ≡ Ok n → integer w ≡ Ok (pos n)
 positive [] n f d e = absurd (omega (arith, f))
 positive (b ∷ w) n f d e =
     let other : (b == 48) ≡ false = ne_eqb b 48 (λ e. omega (arith, f)) in
@@ -76,13 +76,13 @@ zero-read : integer (signed_decimal (pos 0)) ≡ Ok (pos 0)
 unfolding digits
 zero-read = refl
 
-below : (n : ℕ) → below_zero (suc n) ≡ negsuc n
+below : (n : ℕ) → negated (suc n) ≡ negsuc n
 below n =
     let some : (suc n == 0) ≡ false = ne_eqb (suc n) 0 (λ e. omega arith) in
     let one : suc n - 1 ≡ n = omega arith in
     rw some (rw one refl)
 
-negative : (w : List ℕ) (n : ℕ) → natural 9223372036854775808 w ≡ Ok (suc n) → integer (45 ∷ w) ≡ Ok (negsuc n)
+negative : (w : List ℕ) (n : ℕ) → natural_of_word 9223372036854775808 w ≡ Ok (suc n) → integer (45 ∷ w) ≡ Ok (negsuc n)
 negative w n e = rw e (ap Ok (below n))
 
 pub integer-decimal : (i : ℤ) → is_long i ≡ true → integer (signed_decimal i) ≡ Ok i

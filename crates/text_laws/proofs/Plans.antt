@@ -5,7 +5,7 @@ use Rattle.std.specs.List.{list_all, list_any}
 use Rattle.std.proofs.lemmas.Bool.{and_parts, and_from, leb-true, lt-ltb, le-leb, not-true, or_cases, eqb-true, eqb-false}
 use Rattle.std.proofs.lemmas.List.Folds.{list_all-append, list_any-append}
 use Rattle.std.proofs.lemmas.List.Sums.{sum_by-cons}
-use Rattle.ignite_types.specs.Good.{is_within, are_distinct, good_cache, has_cache_line, is_started, same_cache_name, same_node, joining, members, has_member, no_moment_falls, starting, starts, stops, good_step, good_steps, count_up}
+use Rattle.ignite_types.specs.Good.{are_distinct, count_up, good_cache, good_step, good_steps, has_cache_line, has_member, is_started, is_within, joining, members, no_moment_falls, same_cache_name, same_member_node, starting, starts_cache, stops}
 use Rattle.ignite_types.specs.declared.names.NodeId.{NodeId}
 use Rattle.ignite_types.specs.declared.scenario.Cache.{Cache}
 use Rattle.ignite_types.specs.declared.scenario.Member.{Member}
@@ -16,9 +16,9 @@ use Rattle.ignite_types.specs.declared.scenario.Step.TheVariants as step
 use Rattle.scen_text.specs.declared.draft.Draft.{Draft}
 use Rattle.scen_text.specs.declared.line.Line.TheVariants as line
 use Rattle.scen_text.specs.declared.place.Place.TheVariants as place
-use Rattle.scen_text.specs.Drafts.{planned, with_start, with_stop}
-use Rattle.scen_text.specs.Known.{has_cache, names_data, is_named, is_stopped, rises}
-use Rattle.scen_text.specs.Places.{stands}
+use Rattle.scen_text.specs.Drafts.{draft_with_step, with_start, with_stop}
+use Rattle.scen_text.specs.Known.{has_cache, is_named, is_stopped, names_data, rises}
+use Rattle.scen_text.specs.Places.{may_follow}
 use Rattle.text_laws.proofs.Lines.{shape_words, planned_words}
 use Rattle.text_laws.proofs.Caches.{at_all, get_front, get_at, get_within, front_of, new_one, distinct_front, place_is, none_other}
 use Rattle.text_laws.proofs.Heads.{stands_later}
@@ -27,13 +27,13 @@ use Rattle.text_laws.proofs.Split.{weaker}
 use Rattle.text_laws.proofs.Taken.{taken, all_taken, taken_first, taken_meant}
 
 abbrev pub joins_of : List PlanStep → List Member
-joins_of plan = filter_map (λ planned. joining planned.step) plan
+joins_of plan = filter_map (λ draft_with_step. joining draft_with_step.step) plan
 
 abbrev pub starts_of : List PlanStep → List ℕ
-starts_of plan = filter_map (λ planned. starting planned.step) plan
+starts_of plan = filter_map (λ draft_with_step. starting draft_with_step.step) plan
 
 abbrev pub steps_of : List PlanStep → List Step
-steps_of plan = map (λ planned. planned.step) plan
+steps_of plan = map (λ draft_with_step. draft_with_step.step) plan
 
 -- the first of the steps to come is at no moment before those of the steps that came
 abbrev pub goes_on : List PlanStep → List PlanStep → Bool
@@ -53,26 +53,26 @@ pub record PlanFits (s : Scenario) (d : Draft) (late : List Cache) (plan : List 
   pub format : (d.format ≡ 2) ⊎ ((length s.caches ≡ 1) × (1 ≤ length d.caches))
   pub caches : s.caches ≡ d.caches ++ late
   pub started : list_all is_started late ≡ true
-  pub stands : stands d.place place.Plan ≡ true
+  pub stands : may_follow d.place place.Plan ≡ true
   pub sum : d.partitions + sum_by (λ cache. cache.parts) late ≤ 1024
   pub numbers : count_up (length d.caches) (starts_of plan) ≡ true
   pub counted : length late ≡ length (starts_of plan)
-  pub moments : list_all (λ planned. is_within 1 1000000 planned.moment) plan ≡ true
+  pub moments : list_all (λ draft_with_step. is_within 1 1000000 draft_with_step.moment) plan ≡ true
   pub rising : no_moment_falls plan ≡ true
   pub first : goes_on d.plan plan ≡ true
   pub room : length d.plan + length plan ≤ 64
-  pub distinct : are_distinct same_node (d.members ++ joins_of plan) ≡ true
+  pub distinct : are_distinct same_member_node (d.members ++ joins_of plan) ≡ true
   pub few : length (d.members ++ joins_of plan) ≤ 16
   pub joined : list_all (λ member. is_within 1 99 member.node.0) (joins_of plan) ≡ true
   pub steps : good_steps s.caches (members s) (steps_of d.plan) plan ≡ true
-  pub begun : (n : ℕ) → list_any (starts n) (steps_of d.plan) ≡ true → list_any is_started (option_to_list (slice_get d.caches n)) ≡ true
+  pub begun : (n : ℕ) → list_any (starts_cache n) (steps_of d.plan) ≡ true → list_any is_started (option_to_list (slice_get d.caches n)) ≡ true
 
 pub record PlanTaken (s : Scenario) (d : Draft) (steps : List PlanStep) : Type 0 where
   pub next : Draft
   pub took : all_taken d (map (planned_words s) steps) ≡ Ok next
   pub format : next.format ≡ d.format
   pub named : next.named ≡ d.named
-  pub stands : stands next.place place.Sessions ≡ true
+  pub stands : may_follow next.place place.Sessions ≡ true
   pub caches : next.caches ≡ s.caches
   pub nodes : next.nodes ≡ d.nodes
   pub plan : next.plan ≡ d.plan ++ steps
@@ -84,9 +84,9 @@ pub record PlanTaken (s : Scenario) (d : Draft) (steps : List PlanStep) : Type 0
 raised : (came : List PlanStep) (p next : PlanStep) → rises came p.moment ≡ true → nat_le p.moment next.moment ≡ true → rises (came ++ p ∷ []) next.moment ≡ true
 raised came p next r h =
     let low = leb-true p.moment next.moment h in
-    list_all-append (λ planned. nat_le planned.moment next.moment) came (p ∷ [])
+    list_all-append (λ draft_with_step. nat_le draft_with_step.moment next.moment) came (p ∷ [])
     ∙ and_from (rises came next.moment) (nat_le p.moment next.moment && true)
-    (weaker (λ planned. nat_le planned.moment p.moment) (λ planned. nat_le planned.moment next.moment) (λ q k. le-leb q.moment next.moment (let l = leb-true q.moment p.moment k in omega arith)) came r)
+    (weaker (λ draft_with_step. nat_le draft_with_step.moment p.moment) (λ draft_with_step. nat_le draft_with_step.moment next.moment) (λ q k. le-leb q.moment next.moment (let l = leb-true q.moment p.moment k in omega arith)) came r)
     (and_from (nat_le p.moment next.moment) true h refl)
 
 goes_next : (came : List PlanStep) (p : PlanStep) (plan : List PlanStep) → no_moment_falls (p ∷ plan) ≡ true → rises came p.moment ≡ true → (no_moment_falls plan ≡ true) × (goes_on (came ++ p ∷ []) plan ≡ true)
@@ -98,7 +98,7 @@ goes_next came p (next ∷ plan) h r =
 -- what is known of the steps that are left behind one more
 
 record Onward (s : Scenario) (came plan : List PlanStep) : Type 0 where
-  moments : list_all (λ planned. is_within 1 1000000 planned.moment) plan ≡ true
+  moments : list_all (λ draft_with_step. is_within 1 1000000 draft_with_step.moment) plan ≡ true
   rising : no_moment_falls plan ≡ true
   first : goes_on came plan ≡ true
   room : length came + length plan ≤ 64
@@ -113,7 +113,7 @@ onward s d late p plan f =
     let next = goes_next d.plan p plan f.rising f.first in
     let behind = (and_parts (good_step s.caches (members s) (steps_of d.plan) p.step) (good_steps s.caches (members s) (steps_of d.plan ++ p.step ∷ []) plan) f.steps).1 in
     record {
-      moments = (and_parts (is_within 1 1000000 p.moment) (list_all (λ planned. is_within 1 1000000 planned.moment) plan) f.moments).1;
+      moments = (and_parts (is_within 1 1000000 p.moment) (list_all (λ draft_with_step. is_within 1 1000000 draft_with_step.moment) plan) f.moments).1;
       rising = next.0;
       first = next.1;
       room = omega (arith, f.room, length-append d.plan (p ∷ []));
@@ -122,7 +122,7 @@ onward s d late p plan f =
 
 -- what is known of the step itself
 record Now (s : Scenario) (d : Draft) (p : PlanStep) : Type 0 where
-  stands : stands d.place place.Plan ≡ true
+  may_follow : may_follow d.place place.Plan ≡ true
   moment : is_within 1 1000000 p.moment ≡ true
   rises : rises d.plan p.moment ≡ true
   room : nat_lt (length d.plan) 64 ≡ true
@@ -131,7 +131,7 @@ record Now (s : Scenario) (d : Draft) (p : PlanStep) : Type 0 where
 now : (s : Scenario) (d : Draft) (late : List Cache) (p : PlanStep) (plan : List PlanStep) → PlanFits s d late (p ∷ plan) → Now s d p
 now s d late p plan f = record {
   stands = f.stands;
-  moment = (and_parts (is_within 1 1000000 p.moment) (list_all (λ planned. is_within 1 1000000 planned.moment) plan) f.moments).0;
+  moment = (and_parts (is_within 1 1000000 p.moment) (list_all (λ draft_with_step. is_within 1 1000000 draft_with_step.moment) plan) f.moments).0;
   rises = f.first;
   room = lt-ltb (length d.plan) 64 (omega (arith, f.room));
   good = (and_parts (good_step s.caches (members s) (steps_of d.plan) p.step) (good_steps s.caches (members s) (steps_of d.plan ++ p.step ∷ []) plan) f.steps).0;
@@ -157,22 +157,22 @@ next_taken s d e p plan one format called nodes came objects sessions more = rec
 record IsPlain (x : Step) : Type 0 where
   no_start : starting x ≡ None
   no_join : joining x ≡ None
-  none : (n : ℕ) → starts n x ≡ false
+  none : (n : ℕ) → starts_cache n x ≡ false
 
-begun_plain : (s : Scenario) (d : Draft) (m : ℕ) (x : Step) → ((n : ℕ) → starts n x ≡ false) → (n : ℕ)
-    → ((k : ℕ) → list_any (starts k) (steps_of d.plan) ≡ true → list_any is_started (option_to_list (slice_get d.caches k)) ≡ true)
-    → list_any (starts n) (steps_of (d.plan ++ record { moment = m; step = x } ∷ [])) ≡ true → list_any is_started (option_to_list (slice_get d.caches n)) ≡ true
+begun_plain : (s : Scenario) (d : Draft) (m : ℕ) (x : Step) → ((n : ℕ) → starts_cache n x ≡ false) → (n : ℕ)
+    → ((k : ℕ) → list_any (starts_cache k) (steps_of d.plan) ≡ true → list_any is_started (option_to_list (slice_get d.caches k)) ≡ true)
+    → list_any (starts_cache n) (steps_of (d.plan ++ record { moment = m; step = x } ∷ [])) ≡ true → list_any is_started (option_to_list (slice_get d.caches n)) ≡ true
 begun_plain s d m x none n f h =
-    let all : (list_any (starts n) (steps_of d.plan) || (starts n x || false)) ≡ true =
-    sym (list_any-append (starts n) (steps_of d.plan) (x ∷ [])) ∙ (ap (list_any (starts n)) (sym (steps_push d.plan (record { moment = m; step = x }))) ∙ h) in
-    f n (left (list_any (starts n) (steps_of d.plan)) (starts n x) (none n) all)
+    let all : (list_any (starts_cache n) (steps_of d.plan) || (starts_cache n x || false)) ≡ true =
+    sym (list_any-append (starts_cache n) (steps_of d.plan) (x ∷ [])) ∙ (ap (list_any (starts_cache n)) (sym (steps_push d.plan (record { moment = m; step = x }))) ∙ h) in
+    f n (left (list_any (starts_cache n) (steps_of d.plan)) (starts_cache n x) (none n) all)
   where
     left : (a b : Bool) → b ≡ false → (a || (b || false)) ≡ true → a ≡ true
     left true b e h = refl
     left false false e h = cc
     left false true e h = cc
 
-plain_fits : (s : Scenario) (d : Draft) (late : List Cache) (m : ℕ) (x : Step) (plan : List PlanStep) → IsPlain x → PlanFits s d late (record { moment = m; step = x } ∷ plan) → PlanFits s (planned d m x) late plan
+plain_fits : (s : Scenario) (d : Draft) (late : List Cache) (m : ℕ) (x : Step) (plan : List PlanStep) → IsPlain x → PlanFits s d late (record { moment = m; step = x } ∷ plan) → PlanFits s (draft_with_step d m x) late plan
 plain_fits s d late m x plan i f =
     let on = onward s d late (record { moment = m; step = x }) plan f in
     let no_start = i.no_start in
@@ -209,14 +209,14 @@ within_of (m ∷ ms) n h w =
     by go (inr e) p = go e
 
 lose_taken : (s : Scenario) (d : Draft) (m : ℕ) (n : NodeId) → Known s d.named → Now s d (record { moment = m; step = step.Lose n })
-    → taken d (planned_words s (record { moment = m; step = step.Lose n })) ≡ Ok (planned d m (step.Lose n))
+    → taken d (planned_words s (record { moment = m; step = step.Lose n })) ≡ Ok (draft_with_step d m (step.Lose n))
 lose_taken s d m n k w =
     let within = within_of (members s) n w.good k.within in
     let called = k.named n w.good in
     taken_meant d _ _ (lose_meant d.format m n.0 w.moment within) ∙ rw (w.stands, w.moment, within, w.rises, w.room, called) refl
 
 hold_taken : (s : Scenario) (d : Draft) (m : ℕ) (a b : NodeId) → Known s d.named → Now s d (record { moment = m; step = step.Hold a b })
-    → taken d (planned_words s (record { moment = m; step = step.Hold a b })) ≡ Ok (planned d m (step.Hold a b))
+    → taken d (planned_words s (record { moment = m; step = step.Hold a b })) ≡ Ok (draft_with_step d m (step.Hold a b))
 hold_taken s d m a b k w =
     let both = and_parts (has_member (members s) a) (has_member (members s) b) w.good in
     let first = within_of (members s) a both.0 k.within in
@@ -226,7 +226,7 @@ hold_taken s d m a b k w =
     taken_meant d _ _ (hold_meant d.format m a.0 b.0 w.moment first second) ∙ rw (w.stands, w.moment, fit, w.rises, w.room, called) refl
 
 release_taken : (s : Scenario) (d : Draft) (m : ℕ) (a b : NodeId) → Known s d.named → Now s d (record { moment = m; step = step.Release a b })
-    → taken d (planned_words s (record { moment = m; step = step.Release a b })) ≡ Ok (planned d m (step.Release a b))
+    → taken d (planned_words s (record { moment = m; step = step.Release a b })) ≡ Ok (draft_with_step d m (step.Release a b))
 release_taken s d m a b k w =
     let both = and_parts (has_member (members s) a) (has_member (members s) b) w.good in
     let first = within_of (members s) a both.0 k.within in
@@ -238,16 +238,16 @@ release_taken s d m a b k w =
 -- a node joins
 
 join_taken : (s : Scenario) (d : Draft) (late : List Cache) (m : ℕ) (member : Member) (plan : List PlanStep) → PlanFits s d late (record { moment = m; step = step.Join member } ∷ plan)
-    → taken d (planned_words s (record { moment = m; step = step.Join member })) ≡ Ok (planned (record d { members = d.members ++ member ∷ [] }) m (step.Join member))
+    → taken d (planned_words s (record { moment = m; step = step.Join member })) ≡ Ok (draft_with_step (record d { members = d.members ++ member ∷ [] }) m (step.Join member))
 join_taken s d late m member plan f =
     let w = now s d late (record { moment = m; step = step.Join member }) plan f in
     let within = (and_parts (is_within 1 99 member.node.0) (list_all (λ x. is_within 1 99 x.node.0) (joins_of plan)) f.joined).0 in
-    let new = new_one same_node d.members member (joins_of plan) f.distinct in
+    let new = new_one same_member_node d.members member (joins_of plan) f.distinct in
     let few : nat_lt (length d.members) 16 ≡ true = lt-ltb _ 16 (omega (arith, f.few, length-append d.members (member ∷ joins_of plan))) in
     taken_meant d _ _ (join_meant d.format m member.node.0 member.server w.moment within) ∙ rw (w.stands, w.moment, within, w.rises, few, w.room, new) refl
 
 join_fits : (s : Scenario) (d : Draft) (late : List Cache) (m : ℕ) (member : Member) (plan : List PlanStep) → PlanFits s d late (record { moment = m; step = step.Join member } ∷ plan)
-    → PlanFits s (planned (record d { members = d.members ++ member ∷ [] }) m (step.Join member)) late plan
+    → PlanFits s (draft_with_step (record d { members = d.members ++ member ∷ [] }) m (step.Join member)) late plan
 join_fits s d late m member plan f =
     let on = onward s d late (record { moment = m; step = step.Join member }) plan f in
     record {
@@ -309,9 +309,9 @@ starting_now s d (c ∷ later) m n plan f =
     by (inl e) = e
     by (inr e) = absurd (omega (arith, e.0, e.1, ap length f.caches, length-append d.caches (c ∷ later)))
 
-start_step : (d : Draft) (m : ℕ) (c : Cache) → stands d.place place.Plan ≡ true → is_within 1 1000000 m ≡ true → rises d.plan m ≡ true → nat_lt (length d.plan) 64 ≡ true
+start_step : (d : Draft) (m : ℕ) (c : Cache) → may_follow d.place place.Plan ≡ true → is_within 1 1000000 m ≡ true → rises d.plan m ≡ true → nat_lt (length d.plan) 64 ≡ true
     → good_cache c ≡ true → is_started c ≡ true → has_cache d.caches c.name ≡ false → length d.caches < 8 → d.partitions + c.parts ≤ 1024
-    → with_start d m (words_of c) ≡ Ok (planned (record d { caches = d.caches ++ c ∷ []; partitions = d.partitions + c.parts }) m (step.Start (length d.caches)))
+    → with_start d m (words_of c) ≡ Ok (draft_with_step (record d { caches = d.caches ++ c ∷ []; partitions = d.partitions + c.parts }) m (step.Start (length d.caches)))
 start_step d m c st moment ri room g started new few sum =
     let h = cache_fits c g in
     let kinds = and_parts (not c.first) (not c.«data») started in
@@ -319,13 +319,13 @@ start_step d m c st moment ri room g started new few sum =
     let fit_in : (nat_lt (length d.caches) 8 && nat_le (d.partitions + c.parts) 1024) ≡ true = rw (lt-ltb _ 8 few, le-leb _ 1024 sum) refl in
     let plain : names_data d.caches c.name ≡ false = none_less (λ x. x.«data») d.caches c.name new in
     rw (st, plain) (rw (moment, fits) (rw (ri, room) (rw fit_in (rw new
-    (ap (λ x. Ok (planned (record d { caches = d.caches ++ x ∷ []; partitions = d.partitions + c.parts }) m (step.Start (length d.caches)))) (same c false false (not-true _ kinds.0) (not-true _ kinds.1)))))))
+    (ap (λ x. Ok (draft_with_step (record d { caches = d.caches ++ x ∷ []; partitions = d.partitions + c.parts }) m (step.Start (length d.caches)))) (same c false false (not-true _ kinds.0) (not-true _ kinds.1)))))))
   where
     same : (x : Cache) (f k : Bool) → x.first ≡ f → x.«data» ≡ k → record x { first = f; «data» = k } ≡ x
     same x f k p q = λ i. record x { first = sym p i; «data» = sym q i }
 
 abbrev with_started : Draft → ℕ → Cache → Draft
-with_started d m c = planned (record d { caches = d.caches ++ c ∷ []; partitions = d.partitions + c.parts }) m (step.Start (length d.caches))
+with_started d m c = draft_with_step (record d { caches = d.caches ++ c ∷ []; partitions = d.partitions + c.parts }) m (step.Start (length d.caches))
 
 start_taken : (s : Scenario) (d : Draft) (c : Cache) (later : List Cache) (m : ℕ) (plan : List PlanStep) → Known s d.named
     → PlanFits s d (c ∷ later) (record { moment = m; step = step.Start (length d.caches) } ∷ plan) → d.format ≡ 2 → slice_get s.caches (length d.caches) ≡ Some c
@@ -361,8 +361,8 @@ start_fits s d c later m plan f =
       few = f.few;
       joined = f.joined;
       steps = on.steps;
-      begun = λ n h. begun n (sym (list_any-append (starts n) (steps_of d.plan) (step.Start (length d.caches) ∷ []))
-          ∙ (ap (list_any (starts n)) (sym (steps_push d.plan (record { moment = m; step = step.Start (length d.caches) }))) ∙ h));
+      begun = λ n h. begun n (sym (list_any-append (starts_cache n) (steps_of d.plan) (step.Start (length d.caches) ∷ []))
+          ∙ (ap (list_any (starts_cache n)) (sym (steps_push d.plan (record { moment = m; step = step.Start (length d.caches) }))) ∙ h));
     }
   where
     by : (d.format ≡ 2) ⊎ ((length s.caches ≡ 1) × (1 ≤ length d.caches)) → (d.format ≡ 2) ⊎ ((length s.caches ≡ 1) × (1 ≤ length (d.caches ++ c ∷ [])))
@@ -375,11 +375,11 @@ start_fits s d c later m plan f =
     kept n None e h = cc
     kept n (Some x) e h = rw (get_front d.caches (c ∷ []) n x e) h
 
-    begun : (n : ℕ) → (list_any (starts n) (steps_of d.plan) || ((length d.caches == n) || false)) ≡ true
+    begun : (n : ℕ) → (list_any (starts_cache n) (steps_of d.plan) || ((length d.caches == n) || false)) ≡ true
         → list_any is_started (option_to_list (slice_get (d.caches ++ c ∷ []) n)) ≡ true
-    begun n h = split (or_cases (list_any (starts n) (steps_of d.plan)) ((length d.caches == n) || false) h)
+    begun n h = split (or_cases (list_any (starts_cache n) (steps_of d.plan)) ((length d.caches == n) || false) h)
       where
-        split : (list_any (starts n) (steps_of d.plan) ≡ true) ⊎ (((length d.caches == n) || false) ≡ true)
+        split : (list_any (starts_cache n) (steps_of d.plan) ≡ true) ⊎ (((length d.caches == n) || false) ≡ true)
             → list_any is_started (option_to_list (slice_get (d.caches ++ c ∷ []) n)) ≡ true
         split (inl e) = kept n (slice_get d.caches n) refl (f.begun n e)
         split (inr e) =
@@ -402,7 +402,7 @@ record Stopping (s : Scenario) (d : Draft) (n : ℕ) : Type 0 where
   plain : cache.«data» ≡ false
 
 stopping : (s : Scenario) (d : Draft) (late : List Cache) (plan : List PlanStep) (n : ℕ) → PlanFits s d late plan
-    → (list_any has_cache_line (option_to_list (slice_get s.caches n)) || list_any (starts n) (steps_of d.plan)) ≡ true → Stopping s d n
+    → (list_any has_cache_line (option_to_list (slice_get s.caches n)) || list_any (starts_cache n) (steps_of d.plan)) ≡ true → Stopping s d n
 stopping s d late plan n f h = by (or_cases _ _ h)
   where
     lined : (o : Option Cache) → slice_get s.caches n ≡ o → list_any has_cache_line (option_to_list o) ≡ true → Stopping s d n
@@ -435,7 +435,7 @@ stopping s d late plan n f h = by (or_cases _ _ h)
         alone true e = refl
         alone false e = cc
 
-    by : (list_any has_cache_line (option_to_list (slice_get s.caches n)) ≡ true) ⊎ (list_any (starts n) (steps_of d.plan) ≡ true) → Stopping s d n
+    by : (list_any has_cache_line (option_to_list (slice_get s.caches n)) ≡ true) ⊎ (list_any (starts_cache n) (steps_of d.plan) ≡ true) → Stopping s d n
     by (inl e) = lined (slice_get s.caches n) refl e
     by (inr e) = before (slice_get d.caches n) refl (f.begun n e)
 
@@ -443,20 +443,20 @@ any_steps : (plan : List PlanStep) (n : ℕ) → is_stopped plan n ≡ list_any 
 any_steps [] n = refl
 any_steps (p ∷ plan) n = ap (λ b. stops n p.step || b) (any_steps plan n)
 
-stop_step : (d : Draft) (m n : ℕ) (c : Cache) → stands d.place place.Plan ≡ true → is_within 1 1000000 m ≡ true → rises d.plan m ≡ true → nat_lt (length d.plan) 64 ≡ true
+stop_step : (d : Draft) (m n : ℕ) (c : Cache) → may_follow d.place place.Plan ≡ true → is_within 1 1000000 m ≡ true → rises d.plan m ≡ true → nat_lt (length d.plan) 64 ≡ true
     → are_distinct same_cache_name d.caches ≡ true → slice_get d.caches n ≡ Some c → c.«data» ≡ false → (n == 0) ≡ false → is_stopped d.plan n ≡ false
-    → with_stop d m (Some c.name) ≡ Ok (planned d m (step.Stop n))
+    → with_stop d m (Some c.name) ≡ Ok (draft_with_step d m (step.Stop n))
 stop_step d m n c st moment ri room distinct there plain other new =
     let at = place_is d.caches n c distinct there in
     let no_data : names_data d.caches c.name ≡ false = none_other (λ x. x.«data») d.caches n c distinct there plain in
     rw (st, no_data) (rw at (rw other (rw (moment, ri, room) (rw new refl))))
 
 stop_taken : (s : Scenario) (d : Draft) (late : List Cache) (m n : ℕ) (plan : List PlanStep) → Known s d.named → PlanFits s d late (record { moment = m; step = step.Stop n } ∷ plan)
-    → taken d (planned_words s (record { moment = m; step = step.Stop n })) ≡ Ok (planned d m (step.Stop n))
+    → taken d (planned_words s (record { moment = m; step = step.Stop n })) ≡ Ok (draft_with_step d m (step.Stop n))
 stop_taken s d late m n plan k f =
     let w = now s d late (record { moment = m; step = step.Stop n }) plan f in
-    let outer = and_parts (not (n == 0) && (list_any has_cache_line (option_to_list (slice_get s.caches n)) || list_any (starts n) (steps_of d.plan))) (not (list_any (stops n) (steps_of d.plan))) w.good in
-    let inner = and_parts (not (n == 0)) (list_any has_cache_line (option_to_list (slice_get s.caches n)) || list_any (starts n) (steps_of d.plan)) outer.0 in
+    let outer = and_parts (not (n == 0) && (list_any has_cache_line (option_to_list (slice_get s.caches n)) || list_any (starts_cache n) (steps_of d.plan))) (not (list_any (stops n) (steps_of d.plan))) w.good in
+    let inner = and_parts (not (n == 0)) (list_any has_cache_line (option_to_list (slice_get s.caches n)) || list_any (starts_cache n) (steps_of d.plan)) outer.0 in
     let c = stopping s d late (record { moment = m; step = step.Stop n } ∷ plan) n f inner.1 in
     let other : (n == 0) ≡ false = not-true _ inner.0 in
     let caches = f.caches in
@@ -501,13 +501,13 @@ plan_taken s (p ∷ plan) d late k f = by (plan_taken s plan) p.moment p.step f
         next_taken s d _ _ plan (join_taken s d late m member plan f) refl refl refl refl refl refl (go _ late k (join_fits s d late m member plan f))
     by go m (step.Lose n) f =
         next_taken s d _ _ plan (lose_taken s d m n k (now s d late _ plan f)) refl refl refl refl refl refl
-        (go (planned d m (step.Lose n)) late k (plain_fits s d late m (step.Lose n) plan (record { no_start = refl; no_join = refl; none = λ n. refl }) f))
+        (go (draft_with_step d m (step.Lose n)) late k (plain_fits s d late m (step.Lose n) plan (record { no_start = refl; no_join = refl; none = λ n. refl }) f))
     by go m (step.Hold a b) f =
         next_taken s d _ _ plan (hold_taken s d m a b k (now s d late _ plan f)) refl refl refl refl refl refl
-        (go (planned d m (step.Hold a b)) late k (plain_fits s d late m (step.Hold a b) plan (record { no_start = refl; no_join = refl; none = λ n. refl }) f))
+        (go (draft_with_step d m (step.Hold a b)) late k (plain_fits s d late m (step.Hold a b) plan (record { no_start = refl; no_join = refl; none = λ n. refl }) f))
     by go m (step.Release a b) f =
         next_taken s d _ _ plan (release_taken s d m a b k (now s d late _ plan f)) refl refl refl refl refl refl
-        (go (planned d m (step.Release a b)) late k (plain_fits s d late m (step.Release a b) plan (record { no_start = refl; no_join = refl; none = λ n. refl }) f))
+        (go (draft_with_step d m (step.Release a b)) late k (plain_fits s d late m (step.Release a b) plan (record { no_start = refl; no_join = refl; none = λ n. refl }) f))
     by go m (step.Start n) f = started go m n (starting_now s d late m n plan f) f
       where
         started : TakesPlan s plan → (m n : ℕ) → Starting s d late n → PlanFits s d late (record { moment = m; step = step.Start n } ∷ plan) → PlanTaken s d (record { moment = m; step = step.Start n } ∷ plan)
@@ -520,4 +520,4 @@ plan_taken s (p ∷ plan) d late k f = by (plan_taken s plan) p.moment p.step f
             (go (with_started d m h.cache) h.later k (start_fits s d h.cache h.later m plan g)))
     by go m (step.Stop n) f =
         next_taken s d _ _ plan (stop_taken s d late m n plan k f) refl refl refl refl refl refl
-        (go (planned d m (step.Stop n)) late k (plain_fits s d late m (step.Stop n) plan (record { no_start = refl; no_join = refl; none = λ n. refl }) f))
+        (go (draft_with_step d m (step.Stop n)) late k (plain_fits s d late m (step.Stop n) plan (record { no_start = refl; no_join = refl; none = λ n. refl }) f))

@@ -6,7 +6,7 @@ use Rattle.std.specs.List.{cons_option, list_all}
 use Rattle.std.proofs.lemmas.Bool.{and_parts, and_from, leb-true, not-true, not_from_true, cond_both, eqb-true}
 use Rattle.std.proofs.lemmas.List.Folds.{list_all-append}
 use Rattle.ignite_types.specs.Good as good
-use Rattle.ignite_types.specs.Good.{is_within, is_text, is_name, is_name_byte, are_distinct, good_cache, same_cache_name, good_format, is_default, has_cache_line, members, has_member, is_plain_cache, is_data_cache, good_key, good_object, good_value, good_command, good_item, is_plain, open_behind, good_blocks, good_session, object_of, good_kinds, same_session_name, ObjectKind, Long, Sequence, Queue}
+use Rattle.ignite_types.specs.Good.{Long, ObjectKind, Queue, Sequence, are_distinct, good_blocks, good_cache, good_command, good_format, good_item, good_key, good_kinds, good_object, good_session, good_value, has_cache_line, has_member, is_data_cache, is_default, is_name, is_name_byte, is_plain, is_plain_cache, is_text, is_within, members, object_of, open_behind, same_cache_name, same_session_name}
 use Rattle.ignite_types.specs.Texts.{is_key_byte}
 use Rattle.ignite_types.specs.declared.text.Key.{Key}
 use Rattle.ignite_types.specs.declared.scenario.Cache.{Cache}
@@ -25,9 +25,9 @@ use Rattle.scen_text.specs.declared.line.Verb.{Verb}
 use Rattle.scen_text.specs.declared.line.Verb.TheVariants as verb
 use Rattle.scen_text.specs.declared.place.Place.{Place}
 use Rattle.scen_text.specs.declared.place.Place.TheVariants as place
-use Rattle.scen_text.specs.Drafts.{stepped, verb_stands, with_item, with_object, has_room, with_bare, with_keyed}
+use Rattle.scen_text.specs.Drafts.{draft_after_line, has_room, verb_stands, with_bare, with_item, with_keyed, with_object}
 use Rattle.scen_text.specs.Items.{key_text}
-use Rattle.scen_text.specs.Known.{cache_place, same_object, is_other, has_object, same_kind, names_data, names_plain}
+use Rattle.scen_text.specs.Known.{cache_place, has_object, is_other, names_data, names_plain, same_object, same_object_kind}
 use Rattle.scen_text.specs.Limits.{bare_fits, kind_of, keyed}
 use Rattle.scen_text.specs.Places.{in_script, is_outside, place_after}
 use Rattle.scen_text.proofs.GoodKept.{kind_seen}
@@ -131,12 +131,12 @@ seen known = (known.0, kind_seen known.1)
 
 -- none of the known objects is this one with another kind
 abbrev pub agrees_with : List (Key × Kind) → Key × ObjectKind → Bool
-agrees_with objects object = list_all (λ known. good.agrees (seen known) object) objects
+agrees_with objects object = list_all (λ known. good.agree_in_kind (seen known) object) objects
 
 abbrev with_kind : List (Key × Kind) → Key → Kind → List (Key × Kind)
 with_kind objects key k = if has_object objects key then objects else objects ++ (key, k) ∷ []
 
-same_kinds : (a b : Kind) → same_kind a b ≡ good.same_kind (kind_seen a) (kind_seen b)
+same_kinds : (a b : Kind) → same_object_kind a b ≡ good.same_kind (kind_seen a) (kind_seen b)
 same_kinds kind.Long kind.Long = refl
 same_kinds kind.Long kind.Sequence = refl
 same_kinds kind.Long kind.Queue = refl
@@ -150,7 +150,7 @@ same_kinds kind.Queue kind.Queue = refl
 not_other : (objects : List (Key × Kind)) (key : Key) (k : Kind) → agrees_with objects (key, kind_seen k) ≡ true → is_other objects key k ≡ false
 not_other [] key k h = refl
 not_other (known ∷ more) key k h =
-    let parts = and_parts (good.agrees (seen known) (key, kind_seen k)) (agrees_with more (key, kind_seen k)) h in
+    let parts = and_parts (good.agree_in_kind (seen known) (key, kind_seen k)) (agrees_with more (key, kind_seen k)) h in
     rw (same_kinds known.1 k) (rw (not_other more key k parts.1) (by (same_object known.0 key) (good.same_kind (kind_seen known.1) (kind_seen k)) parts.0))
   where
     by : (a b : Bool) → (not a || b) ≡ true → ((a && not b) || false) ≡ false
@@ -159,18 +159,18 @@ not_other (known ∷ more) key k h =
     by false b h = refl
 
 -- the objects that are still to be read agree with one more that is known
-agree_more : (objects : List (Key × Kind)) (key : Key) (k : Kind) (left : List (Key × ObjectKind)) → list_all (agrees_with objects) left ≡ true → list_all (good.agrees (key, kind_seen k)) left ≡ true
+agree_more : (objects : List (Key × Kind)) (key : Key) (k : Kind) (left : List (Key × ObjectKind)) → list_all (agrees_with objects) left ≡ true → list_all (good.agree_in_kind (key, kind_seen k)) left ≡ true
     → list_all (agrees_with (with_kind objects key k)) left ≡ true
 agree_more objects key k left h g =
     cond_both (has_object objects key) objects (objects ++ (key, k) ∷ []) (λ all. list_all (agrees_with all) left ≡ true) (λ e. h) (λ e. each left h g)
   where
-    each : (xs : List (Key × ObjectKind)) → list_all (agrees_with objects) xs ≡ true → list_all (good.agrees (key, kind_seen k)) xs ≡ true → list_all (agrees_with (objects ++ (key, k) ∷ [])) xs ≡ true
+    each : (xs : List (Key × ObjectKind)) → list_all (agrees_with objects) xs ≡ true → list_all (good.agree_in_kind (key, kind_seen k)) xs ≡ true → list_all (agrees_with (objects ++ (key, k) ∷ [])) xs ≡ true
     each [] h g = refl
     each (x ∷ xs) h g =
         let old = and_parts (agrees_with objects x) (list_all (agrees_with objects) xs) h in
-        let new = and_parts (good.agrees (key, kind_seen k) x) (list_all (good.agrees (key, kind_seen k)) xs) g in
+        let new = and_parts (good.agree_in_kind (key, kind_seen k) x) (list_all (good.agree_in_kind (key, kind_seen k)) xs) g in
         and_from (agrees_with (objects ++ (key, k) ∷ []) x) (list_all (agrees_with (objects ++ (key, k) ∷ [])) xs)
-        (list_all-append (λ known. good.agrees (seen known) x) objects ((key, k) ∷ []) ∙ and_from (agrees_with objects x) _ old.0 (and_from (good.agrees (key, kind_seen k) x) true new.0 refl))
+        (list_all-append (λ known. good.agree_in_kind (seen known) x) objects ((key, k) ∷ []) ∙ and_from (agrees_with objects x) _ old.0 (and_from (good.agree_in_kind (key, kind_seen k) x) true new.0 refl))
         (each xs old.1 new.1)
 
 object_kept : (d : Draft) (key : Key) (k : Kind) → with_object d key (Some k) ≡ record d { objects = with_kind d.objects key k }
@@ -268,7 +268,7 @@ data_step d opened v kd c key x p free distinct there kept room agree kind means
     keyed_step d v c key x at st means room
     ∙ ap Ok (ap (λ o. with_item (with_object d key o) x) kind ∙ (ap (λ e. with_item e x) (object_kept d key kd) ∙ item_is (record d { objects = with_kind d.objects key kd }) opened x p))
 
-taken_as : (d : Draft) (f : ℕ) (ws : List (List ℕ)) (l : Line) → d.format ≡ f → Meant f ws l → taken d ws ≡ stepped d l
+taken_as : (d : Draft) (f : ℕ) (ws : List (List ℕ)) (l : Line) → d.format ≡ f → Meant f ws l → taken d ws ≡ draft_after_line d l
 taken_as d f ws l e m = taken_meant d ws l (subst (λ x. Meant x ws l) (sym e) m)
 
 -- what is known of a scenario whose items are read
@@ -279,7 +279,7 @@ pub record Whole (s : Scenario) : Type 0 where
 
 -- a plain command is taken
 plain_taken : (s : Scenario) (d : Draft) (opened : Bool) (x : Item) (left : List (Key × ObjectKind)) (l : Line) → ItemFits s d opened x left → object_of x ≡ None
-    → Meant s.format (item_words s x) l → stepped d l ≡ Ok (behind_item d (open_behind opened x) d.objects x) → ItemTaken s d opened x left
+    → Meant s.format (item_words s x) l → draft_after_line d l ≡ Ok (behind_item d (open_behind opened x) d.objects x) → ItemTaken s d opened x left
 plain_taken s d opened x left l f none m step = record {
   objects = d.objects;
   took = taken_as d s.format (item_words s x) l f.format m ∙ step;
@@ -315,7 +315,7 @@ data_taken s d opened x left v kd key w f is data_one fits kind means m =
     let kinds : good_kinds ((key, kind_seen kd) ∷ left) ≡ true = rw is at f.kinds in
     let free : not opened ≡ true = rw data_one at f.free in
     let now = and_parts (agrees_with d.objects (key, kind_seen kd)) (list_all (agrees_with d.objects) left) agree in
-    let later = and_parts (list_all (good.agrees (key, kind_seen kd)) left) (good_kinds left) kinds in
+    let later = and_parts (list_all (good.agree_in_kind (key, kind_seen kd)) left) (good_kinds left) kinds in
     record {
       objects = with_kind d.objects key kd;
       took = taken_as d 2 (item_words s x) (line.Keyed v (named_key c.cache key)) (f.format ∙ two) (m (named_key c.cache key) (object_meant s key c.cache two c.there fit.name parts.0))

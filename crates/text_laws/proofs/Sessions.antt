@@ -3,7 +3,7 @@ use Rattle.std.proofs.Common.{◌≡◌, ◌+◌, ◌<◌, ◌≤◌, Bool, true
 use Rattle.std.specs.Prelude.{◌&&◌, ◌||◌, not, nat_le, codes, decimal, filter_map, flat_map, map, Option, Some, None, Result, Ok}
 use Rattle.std.specs.List.{cons_option, list_all}
 use Rattle.std.proofs.lemmas.Bool.{and_parts, lt-ltb, leb-true}
-use Rattle.ignite_types.specs.Good.{is_within, is_name, are_distinct, members, has_member, good_item, is_plain, open_behind, good_blocks, good_session, object_of, good_kinds, same_session_name, ObjectKind}
+use Rattle.ignite_types.specs.Good.{ObjectKind, are_distinct, good_blocks, good_item, good_kinds, good_session, has_member, is_name, is_plain, is_within, members, object_of, open_behind, same_session_name}
 use Rattle.ignite_types.specs.declared.text.Key.{Key}
 use Rattle.ignite_types.specs.declared.scenario.Item.{Item}
 use Rattle.ignite_types.specs.declared.scenario.Scenario.{Scenario}
@@ -12,9 +12,9 @@ use Rattle.scen_text.specs.declared.cause.Cause.{Cause}
 use Rattle.scen_text.specs.declared.draft.Draft.{Draft}
 use Rattle.scen_text.specs.declared.limits.Kind.{Kind}
 use Rattle.scen_text.specs.declared.place.Place.TheVariants as place
-use Rattle.scen_text.specs.Drafts.{no_session, with_session, with_end}
-use Rattle.scen_text.specs.Known.{is_named, has_session}
-use Rattle.scen_text.specs.Places.{stands}
+use Rattle.scen_text.specs.Drafts.{no_session, with_end, with_session}
+use Rattle.scen_text.specs.Known.{has_session, is_named}
+use Rattle.scen_text.specs.Places.{may_follow}
 use Rattle.text_laws.proofs.Lines.{item_words, session_lines}
 use Rattle.text_laws.specs.RoundTrip.{has_long}
 use Rattle.text_laws.proofs.Caches.{new_one}
@@ -116,7 +116,7 @@ items_taken s (x ∷ xs) d opened left w f =
 record SessionFits (s : Scenario) (d : Draft) (x : Session) (left : List (Key × ObjectKind)) : Type 0 where
   format : d.format ≡ s.format
   caches : d.caches ≡ s.caches
-  stands : stands d.place place.Sessions ≡ true
+  may_follow : may_follow d.place place.Sessions ≡ true
   room : length d.sessions < 64
   new : has_session d.sessions x.name ≡ false
   good : good_session s.caches (members s) x ≡ true
@@ -154,7 +154,7 @@ good_parts s x h =
 abbrev begun : Draft → Session → Draft
 begun d x = record d { place = place.Script; session = record { name = x.name; node = x.node; commands = [] } }
 
-begin_step : (d : Draft) (x : Session) → stands d.place place.Sessions ≡ true → is_within 1 99 x.node.0 ≡ true → length d.sessions < 64 → is_named d.named x.node ≡ true → has_session d.sessions x.name ≡ false
+begin_step : (d : Draft) (x : Session) → may_follow d.place place.Sessions ≡ true → is_within 1 99 x.node.0 ≡ true → length d.sessions < 64 → is_named d.named x.node ≡ true → has_session d.sessions x.name ≡ false
     → with_session d (Some x.name) x.node ≡ Ok (begun d x)
 begin_step d x st within few called new = rw (st, within, lt-ltb _ 64 few, called, new) refl
 
@@ -196,7 +196,7 @@ commands_of xs = flat_map (λ session. session.commands) xs
 pub record SessionsFit (s : Scenario) (d : Draft) (xs : List Session) : Type 0 where
   pub format : d.format ≡ s.format
   pub caches : d.caches ≡ s.caches
-  pub stands : stands d.place place.Sessions ≡ true
+  pub stands : may_follow d.place place.Sessions ≡ true
   pub room : length d.sessions + length xs ≤ 64
   pub distinct : are_distinct same_session_name (d.sessions ++ xs) ≡ true
   pub good : list_all (good_session s.caches (members s)) xs ≡ true
@@ -208,7 +208,7 @@ pub record SessionsTaken (s : Scenario) (d : Draft) (xs : List Session) : Type 0
   pub next : Draft
   pub took : all_taken d (flat_map (session_lines s) xs) ≡ Ok next
   pub format : next.format ≡ d.format
-  pub stands : stands next.place place.Sessions ≡ true
+  pub stands : may_follow next.place place.Sessions ≡ true
   pub caches : next.caches ≡ d.caches
   pub nodes : next.nodes ≡ d.nodes
   pub plan : next.plan ≡ d.plan

@@ -12,8 +12,8 @@ use Rattle.scen_text.specs.declared.cause.Cause.{Cause}
 use Rattle.scen_text.specs.declared.cause.Cause.TheVariants.{NotUtf8}
 use Rattle.scen_text.specs.declared.line.Line.{Line}
 use Rattle.scen_text.specs.declared.line.Line.TheVariants.{Blank}
-use Rattle.scen_text.specs.Meaning.{meaning, is_remark, line_of}
-use Rattle.scen_text.specs.Words.{words, has_bytes}
+use Rattle.scen_text.specs.Meaning.{is_remark, line_meant, meaning}
+use Rattle.scen_text.specs.Words.{has_bytes, words}
 
 abbrev pub is_word_byte : ℕ → Bool
 is_word_byte b = nat_le 33 b && nat_le b 126
@@ -119,7 +119,7 @@ ascii_line (b ∷ bs) h =
     IsAscii-cons b bs (omega (arith, p.1)) (ascii_line bs parts.1)
 
 -- what a line of words means
-pub line_of-spaced : (f : ℕ) (ws : List (List ℕ)) → is_line ws ≡ true → line_of f (spaced ws) ≡ meaning f ws
+pub line_of-spaced : (f : ℕ) (ws : List (List ℕ)) → is_line ws ≡ true → line_meant f (spaced ws) ≡ meaning f ws
 line_of-spaced f ws h =
     let parts = and_parts (list_all is_word ws) (not (is_remark (spaced ws))) h in
     let text : is_utf8 (spaced ws) ≡ true = is_utf8-from_IsUtf8 _ (IsUtf8-from_ascii _ (ascii_line _ (line_bytes ws parts.0))) in

@@ -9,7 +9,7 @@ use Rattle.scen_text.specs.declared.cause.Cause.TheVariants.{Syntax}
 use Rattle.scen_text.specs.declared.draft.Draft.{Draft}
 use Rattle.scen_text.specs.declared.line.Line.{Line}
 use Rattle.scen_text.specs.Causes.{◌>>=◌}
-use Rattle.scen_text.specs.Drafts.{empty, stepped, finished}
+use Rattle.scen_text.specs.Drafts.{draft_after_line, empty, finished}
 use Rattle.scen_text.specs.Meaning.{meaning}
 use Rattle.scen_text.specs.Reading.{named_in, at_line, and_then, read_lines, scenario_of}
 use Rattle.text_laws.proofs.Means.{Meant}
@@ -17,7 +17,7 @@ use Rattle.text_laws.proofs.Split.{spaced, text_of, is_line, line_of-spaced, lin
 
 -- what words make of a draft, if they are a line that is no remark
 abbrev pub taken : Draft → List (List ℕ) → Result Draft Cause
-taken d ws = if is_line ws then (meaning d.format ws >>= λ meant. stepped d meant) else Err Syntax
+taken d ws = if is_line ws then (meaning d.format ws >>= λ meant. draft_after_line d meant) else Err Syntax
 
 -- and many of them
 abbrev pub all_taken : Draft → List (List (List ℕ)) → Result Draft Cause
@@ -38,13 +38,13 @@ taken_both (ws ∷ xs) ys d e last h k = by (taken d ws) h (λ x g. taken_both x
     by (Err cause) h f = cc
 
 -- what a line means is what it makes of a draft
-pub taken_meant : (d : Draft) (ws : List (List ℕ)) (l : Line) → Meant d.format ws l → taken d ws ≡ stepped d l
+pub taken_meant : (d : Draft) (ws : List (List ℕ)) (l : Line) → Meant d.format ws l → taken d ws ≡ draft_after_line d l
 taken_meant d ws l m = let is = m.line in let means = m.means in rw is (rw means refl)
 
 -- only lines are taken
 lines_taken : (ls : List (List (List ℕ))) (d e : Draft) → all_taken d ls ≡ Ok e → list_all is_line ls ≡ true
 lines_taken [] d e h = refl
-lines_taken (ws ∷ ls) d e h = by (is_line ws) (meaning d.format ws >>= λ meant. stepped d meant) h (λ x k. lines_taken ls x e k)
+lines_taken (ws ∷ ls) d e h = by (is_line ws) (meaning d.format ws >>= λ meant. draft_after_line d meant) h (λ x k. lines_taken ls x e k)
   where
     by : (b : Bool) (r : Result Draft Cause) → ((if b then r else Err Syntax) >>= λ next. all_taken next ls) ≡ Ok e → ((x : Draft) → all_taken x ls ≡ Ok e → list_all is_line ls ≡ true)
         → (b && list_all is_line ls) ≡ true
@@ -58,9 +58,9 @@ read_words : (n : ℕ) (d e : Draft) (ls : List (List (List ℕ))) (s : Scenario
 read_words n d e [] s h t f = let same : d ≡ e = cc in rw same (rw f refl)
 read_words n d e (ws ∷ ls) s h t f =
     let parts = and_parts (is_line ws) (list_all is_line ls) h in
-    let step = cond-true (is_line ws) (meaning d.format ws >>= λ meant. stepped d meant) (Err Syntax) parts.0 in
-    let t : ((meaning d.format ws >>= λ meant. stepped d meant) >>= λ next. all_taken next ls) ≡ Ok e = subst (λ r. (r >>= λ next. all_taken next ls) ≡ Ok e) step t in
-    rw (line_of-spaced d.format ws parts.0) (by (meaning d.format ws >>= λ meant. stepped d meant) t (λ x k. read_words (n + 1) x e ls s parts.1 k f))
+    let step = cond-true (is_line ws) (meaning d.format ws >>= λ meant. draft_after_line d meant) (Err Syntax) parts.0 in
+    let t : ((meaning d.format ws >>= λ meant. draft_after_line d meant) >>= λ next. all_taken next ls) ≡ Ok e = subst (λ r. (r >>= λ next. all_taken next ls) ≡ Ok e) step t in
+    rw (line_of-spaced d.format ws parts.0) (by (meaning d.format ws >>= λ meant. draft_after_line d meant) t (λ x k. read_words (n + 1) x e ls s parts.1 k f))
   where
     by : (r : Result Draft Cause) → (r >>= λ next. all_taken next ls) ≡ Ok e → ((x : Draft) → all_taken x ls ≡ Ok e → read_lines (n + 1) x (map spaced ls) ≡ Ok s)
         → and_then (at_line n r) (λ next. read_lines (n + 1) next (map spaced ls)) ≡ Ok s

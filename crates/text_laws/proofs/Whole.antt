@@ -14,7 +14,7 @@ use Rattle.std.specs.Prelude.{◌&&◌, ◌||◌, ◌⊎◌, not, nat_le, ◌==�
 use Rattle.std.specs.List.{list_all, list_any}
 use Rattle.std.proofs.lemmas.Bool.{and_parts, and_from, leb-true, eqb-true, cond-true, cond-false, and_left, not_from_true, or_cases, or_left, or_right}
 use Rattle.std.proofs.lemmas.List.Folds.{list_all-append, list_any-append}
-use Rattle.ignite_types.specs.Good.{is_within, are_distinct, good_cache, in_order, has_cache_line, is_started, same_cache_name, good_format, is_default, good_caches, members, same_node, has_member, good_nodes, good_steps, starts, count_up, good_starts, no_moment_falls, good_plan, good_session, good_sessions, same_session_name, object_of, good_kinds, ObjectKind, good}
+use Rattle.ignite_types.specs.Good.{ObjectKind, are_distinct, count_up, good, good_cache, good_caches, good_format, good_kinds, good_nodes, good_plan, good_session, good_sessions, good_starts, good_steps, has_cache_line, has_member, in_order, is_default, is_started, is_within, members, no_moment_falls, object_of, same_cache_name, same_member_node, same_session_name, starts_cache}
 use Rattle.ignite_types.specs.declared.names.NodeId.{NodeId}
 use Rattle.ignite_types.specs.declared.text.Key.{Key}
 use Rattle.ignite_types.specs.declared.scenario.Cache.{Cache}
@@ -24,9 +24,9 @@ use Rattle.scen_text.specs.declared.draft.Draft.{Draft}
 use Rattle.scen_text.specs.declared.place.Place.{Place}
 use Rattle.scen_text.specs.declared.place.Place.TheVariants as place
 use Rattle.scen_text.specs.Drafts.{empty, finished}
-use Rattle.scen_text.specs.Known.{is_named, has_server, has_line}
+use Rattle.scen_text.specs.Known.{has_line, has_server, is_named}
 use Rattle.scen_text.specs.Places as places
-use Rattle.scen_text.specs.Places.{stands}
+use Rattle.scen_text.specs.Places.{may_follow}
 use Rattle.scen_text.specs.Reading.{named_in, scenario_of}
 use Rattle.text_laws.proofs.Lines.{head_lines, member_words, planned_words, session_lines, all_lines}
 use Rattle.text_laws.specs.RoundTrip.{ReadsBack}
@@ -51,7 +51,7 @@ record GoodParts (s : Scenario) : Type 0 where
   few : length s.caches ≤ 8
   sum : sum_by (λ cache. cache.parts) s.caches ≤ 1024
   within : list_all (λ member. is_within 1 99 member.node.0) (members s) ≡ true
-  apart : are_distinct same_node (members s) ≡ true
+  apart : are_distinct same_member_node (members s) ≡ true
   few_nodes : length (members s) ≤ 16
   server : list_any (λ member. member.server) s.nodes ≡ true
   few_steps : length s.plan ≤ 64
@@ -78,9 +78,9 @@ good_parts s h =
     let c4 = and_parts (list_all good_cache caches && in_order caches) (list_any has_cache_line caches) c3.0 in
     let c5 = and_parts (list_all good_cache caches) (in_order caches) c4.0 in
     let all = members s in
-    let n1 = and_parts (list_all (λ member. is_within 1 99 member.node.0) all && are_distinct same_node all && nat_le (length all) 16) (list_any (λ member. member.server) s.nodes) c.1 in
-    let n2 = and_parts (list_all (λ member. is_within 1 99 member.node.0) all && are_distinct same_node all) (nat_le (length all) 16) n1.0 in
-    let n3 = and_parts (list_all (λ member. is_within 1 99 member.node.0) all) (are_distinct same_node all) n2.0 in
+    let n1 = and_parts (list_all (λ member. is_within 1 99 member.node.0) all && are_distinct same_member_node all && nat_le (length all) 16) (list_any (λ member. member.server) s.nodes) c.1 in
+    let n2 = and_parts (list_all (λ member. is_within 1 99 member.node.0) all && are_distinct same_member_node all) (nat_le (length all) 16) n1.0 in
+    let n3 = and_parts (list_all (λ member. is_within 1 99 member.node.0) all) (are_distinct same_member_node all) n2.0 in
     let plan = s.plan in
     let p1 = and_parts (nat_le (length plan) 64 && list_all (λ planned. is_within 1 1000000 planned.moment) plan && no_moment_falls plan && good_steps caches all [] plan) (good_starts caches (starts_of plan)) b.1 in
     let p2 = and_parts (nat_le (length plan) 64 && list_all (λ planned. is_within 1 1000000 planned.moment) plan && no_moment_falls plan) (good_steps caches all [] plan) p1.0 in
@@ -177,7 +177,7 @@ named s g n h =
 -- what is known where the first step is read
 record Before (s : Scenario) (d : Draft) : Type 0 where
   format : d.format ≡ s.format
-  stands : stands d.place place.Plan ≡ true
+  may_follow : may_follow d.place place.Plan ≡ true
   caches : d.caches ≡ filter (λ cache. cache.first) s.caches
   sum : d.partitions + sum_by (λ cache. cache.parts) (filter is_started s.caches) ≤ 1024
   members : d.members ≡ s.nodes
@@ -217,11 +217,11 @@ plan_fits s d g b =
       rising = g.rising;
       first = goes_first d.plan s.plan b.plan;
       room = subst (λ came. length came + length s.plan ≤ 64) (sym b.plan) (omega (arith, g.few_steps));
-      distinct = subst (λ ms. are_distinct same_node (ms ++ joins_of s.plan) ≡ true) (sym b.members) g.apart;
+      distinct = subst (λ ms. are_distinct same_member_node (ms ++ joins_of s.plan) ≡ true) (sym b.members) g.apart;
       few = subst (λ ms. length (ms ++ joins_of s.plan) ≤ 16) (sym b.members) g.few_nodes;
       joined = within.1;
       steps = subst (λ came. good_steps s.caches (members s) (steps_of came) s.plan ≡ true) (sym b.plan) g.steps;
-      begun = λ n h. absurd (let none : list_any (starts n) (steps_of []) ≡ true = subst (λ came. list_any (starts n) (steps_of came) ≡ true) b.plan h in cc);
+      begun = λ n h. absurd (let none : list_any (starts_cache n) (steps_of []) ≡ true = subst (λ came. list_any (starts_cache n) (steps_of came) ≡ true) b.plan h in cc);
     }
   where
     by : ((s.format ≡ 1) × (is_default s.caches ≡ true)) ⊎ (s.format ≡ 2) → (d.format ≡ 2) ⊎ ((length s.caches ≡ 1) × (1 ≤ length d.caches))
@@ -230,7 +230,7 @@ plan_fits s d g b =
 
 -- the end
 
-whole_place : (p : Place) → stands p place.Sessions ≡ true → places.is_whole p ≡ true
+whole_place : (p : Place) → may_follow p place.Sessions ≡ true → places.is_outside_session p ≡ true
 whole_place place.Start h = cc
 whole_place place.Script h = cc
 whole_place place.Block h = cc
@@ -241,7 +241,7 @@ none_known [] = refl
 none_known (x ∷ xs) = none_known xs
 
 -- what is read is the scenario
-last : (s : Scenario) (e : Draft) → GoodParts s → e.format ≡ s.format → stands e.place place.Sessions ≡ true → e.caches ≡ s.caches → e.nodes ≡ s.nodes → e.plan ≡ s.plan → e.sessions ≡ s.sessions → finished e ≡ Ok s
+last : (s : Scenario) (e : Draft) → GoodParts s → e.format ≡ s.format → may_follow e.place place.Sessions ≡ true → e.caches ≡ s.caches → e.nodes ≡ s.nodes → e.plan ≡ s.plan → e.sessions ≡ s.sessions → finished e ≡ Ok s
 last s e g format st caches nodes plan sessions =
     let there = whole_place e.place st in
     let server : has_server e.nodes ≡ true = subst (λ ms. has_server ms ≡ true) (sym nodes) g.server in
@@ -260,7 +260,7 @@ reads_back s h longs few =
     let fits = and_parts (list_all (λ member. is_within 1 99 member.node.0) s.nodes) (list_all (λ member. is_within 1 99 member.node.0) (joins_of s.plan))
     (sym (list_all-append (λ member. is_within 1 99 member.node.0) s.nodes (joins_of s.plan)) ∙ g.within) in
     let nodes = nodes_taken s.nodes heads.next heads.stands fits.0
-    (subst (λ ms. are_distinct same_node ms ≡ true) (sym all_members) (distinct_front same_node s.nodes (joins_of s.plan) g.apart))
+    (subst (λ ms. are_distinct same_member_node ms ≡ true) (sym all_members) (distinct_front same_member_node s.nodes (joins_of s.plan) g.apart))
     (subst (λ ms. length ms ≤ 16) (sym all_members) (omega (arith, g.few_nodes, length-append s.nodes (joins_of s.plan)))) in
     let known_nodes : Known s nodes.next.named = subst (λ xs. Known s xs) (sym (nodes.named ∙ heads.named)) known in
     let plan = plan_taken s s.plan nodes.next (filter is_started s.caches) known_nodes (plan_fits s nodes.next g (record {

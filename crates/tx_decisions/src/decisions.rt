@@ -1,7 +1,7 @@
 //! Decisions and faults.
 
 ghost use Rattle.std.specs.Prelude.{◌≡◌, ◌++◌, OnOk, IfOk};
-ghost use Rattle.act_rows.specs.Decisions.{decided_state, decides, decision_outs, fails, finishes_for_lost, orphaned, takes_decision, takes_fault};
+ghost use Rattle.act_rows.specs.Decisions.{after_decide, after_fail, decided_state, decision_outs, finishes_for_lost, orphaned_shares, with_decision, with_fault};
 ghost use Rattle.act_rows.specs.Steps.{entry_of};
 
 use ignite_types::{Fault, List, Mem, Message, NodeId, Out, Rec, Share, TxId};
@@ -21,7 +21,7 @@ fn decided_state(commit: bool) -> TxState
 
 /// The shares of lost primaries whose holders are live.
 pub fn orphaned(node: &Node, shares: &[Share]) -> Mem<List<Share>>
-    ensures { IfOk result (λ left. left ≡ orphaned node.now shares.now) }
+    ensures { IfOk result (λ left. left ≡ orphaned_shares node.now shares.now) }
 {
     let mut left = List::new(node.alloc);
     for share in shares {
@@ -65,7 +65,7 @@ fn decision_outs(node: &Node, tx: TxId, commit: bool, entry: &TxEntry) -> Mem<Li
 /// From the decision on each live primary that was asked is awaited, and each live holder of a lost one's share.
 #[tactic(auto, using(act_rows::proofs::TableLaws::tx_put_put))]
 fn take_decision(node: &mut Node, tx: TxId, commit: bool) -> Mem<()>
-    ensures { OnOk result (node.new ≡ takes_decision node.old tx commit) }
+    ensures { OnOk result (node.new ≡ with_decision node.old tx commit) }
 {
     let Some(entry) = node.entry(&tx) else {
         return Ok(());
@@ -85,7 +85,7 @@ fn take_decision(node: &mut Node, tx: TxId, commit: bool) -> Mem<()>
 
 /// The decision is noted, and all that hold something of the transaction are told.
 pub fn decide(node: &mut Node, tx: TxId, commit: bool) -> Mem<()>
-    ensures { OnOk result (node.new ≡ decides node.old tx commit) }
+    ensures { OnOk result (node.new ≡ after_decide node.old tx commit) }
 {
     let Some(entry) = node.entry(&tx) else {
         return Ok(());
@@ -98,7 +98,7 @@ pub fn decide(node: &mut Node, tx: TxId, commit: bool) -> Mem<()>
 
 #[tactic(auto, using(act_rows::proofs::TableLaws::tx_put_put))]
 fn take_fault(node: &mut Node, tx: TxId, fault: &Fault) -> Mem<()>
-    ensures { OnOk result (node.new ≡ takes_fault node.old tx fault.now) }
+    ensures { OnOk result (node.new ≡ with_fault node.old tx fault.now) }
 {
     let Some(mut entry) = node.take_entry(tx) else {
         return Ok(());
@@ -109,7 +109,7 @@ fn take_fault(node: &mut Node, tx: TxId, fault: &Fault) -> Mem<()>
 
 /// A fault is noted and rolls the transaction back.
 pub fn fail(node: &mut Node, tx: TxId, fault: &Fault) -> Mem<()>
-    ensures { OnOk result (node.new ≡ fails node.old tx fault.now) }
+    ensures { OnOk result (node.new ≡ after_fail node.old tx fault.now) }
 {
     take_fault(node, tx, fault)?;
     let noted = *fault;

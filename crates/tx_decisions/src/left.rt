@@ -1,7 +1,7 @@
 //! A starter sees a node leave.
 
 ghost use Rattle.std.specs.Prelude.{◌≡◌, OnOk, IfOk};
-ghost use Rattle.act_rows.specs.Decisions.{backups_after, is_commit, leaves_entry, left_for_each, left_for_tx, left_outs, live_backups, near_side_left, primaries_at, shares_under, txs_of, undecided_with, with_shares};
+ghost use Rattle.act_rows.specs.Decisions.{after_left_at_starter, after_left_for_each, after_left_for_tx, after_left_undecided_with, backups_after, is_committing, live_backups, outs_after_left, primaries_at, shares_under, txs_of, with_entry_left, with_shares};
 ghost use Rattle.act_rows.specs.Steps.{entry_of};
 
 use crate::decisions::fail;
@@ -37,7 +37,7 @@ pub fn primaries_at(node: &Node, keys: &[Key]) -> Mem<Set<NodeId>>
 
 /// Undecided: the loss of a key's primary is a fault.
 fn undecided_left(node: &mut Node, tx: TxId, lost: NodeId, primaries: &[NodeId]) -> Mem<()>
-    ensures { OnOk result (node.new ≡ undecided_with node.old tx lost primaries.now) }
+    ensures { OnOk result (node.new ≡ after_left_undecided_with node.old tx lost primaries.now) }
 {
     if has_node(primaries, lost) {
         fail(node, tx, &Fault::NodeLost(lost))
@@ -95,7 +95,7 @@ fn live_backups(node: &Node, backups: &[Share]) -> Mem<List<Share>>
 /// A lost node is awaited no more.
 #[tactic(auto, using(act_rows::proofs::TableLaws::tx_put_put))]
 fn left_entry(node: &mut Node, tx: TxId, lost: NodeId) -> Mem<()>
-    ensures { OnOk result (node.new ≡ leaves_entry node.old tx lost) }
+    ensures { OnOk result (node.new ≡ with_entry_left node.old tx lost) }
 {
     let Some(mut entry) = node.take_entry(tx) else {
         return Ok(());
@@ -109,7 +109,7 @@ fn left_entry(node: &mut Node, tx: TxId, lost: NodeId) -> Mem<()>
 
 /// BackupFinish to the live holders of the lost primary's shares, where it is awaited.
 fn left_outs(node: &Node, tx: TxId, lost: NodeId, entry: &TxEntry) -> Mem<List<Out>>
-    ensures { IfOk result (λ outs. outs ≡ left_outs node.now tx lost entry.now) }
+    ensures { IfOk result (λ outs. outs ≡ outs_after_left node.now tx lost entry.now) }
 {
     if entry.awaited.contains(&lost) {
         let holders = node.live_holders(entry.shares.as_slice(), lost)?;
@@ -126,7 +126,7 @@ fn left_outs(node: &Node, tx: TxId, lost: NodeId, entry: &TxEntry) -> Mem<List<O
 }
 
 fn is_commit(state: TxState) -> bool
-    ensures { result ≡ is_commit state }
+    ensures { result ≡ is_committing state }
 {
     match state {
         TxState::Committing => true,
@@ -135,7 +135,7 @@ fn is_commit(state: TxState) -> bool
 }
 
 fn left_for(node: &mut Node, tx: TxId, lost: NodeId) -> Mem<()>
-    ensures { OnOk result (node.new ≡ left_for_tx node.old tx lost (entry_of node.old tx)) }
+    ensures { OnOk result (node.new ≡ after_left_for_tx node.old tx lost (entry_of node.old tx)) }
 {
     let Some(entry) = node.entry(&tx) else {
         return Ok(());
@@ -155,7 +155,7 @@ fn left_for(node: &mut Node, tx: TxId, lost: NodeId) -> Mem<()>
 }
 
 fn left_for_each(node: &mut Node, lost: NodeId, txs: &[TxId]) -> Mem<()>
-    ensures { OnOk result (node.new ≡ left_for_each node.old lost txs.now) }
+    ensures { OnOk result (node.new ≡ after_left_for_each node.old lost txs.now) }
 {
     for tx in txs {
         left_for(node, *tx, lost)?;
@@ -165,7 +165,7 @@ fn left_for_each(node: &mut Node, lost: NodeId, txs: &[TxId]) -> Mem<()>
 
 /// What a loss brings to the transactions that were started here, one after the other.
 pub fn near_side_saw_leave(node: &mut Node, lost: NodeId) -> Mem<()>
-    ensures { OnOk result (node.new ≡ near_side_left node.old lost) }
+    ensures { OnOk result (node.new ≡ after_left_at_starter node.old lost) }
 {
     let txs = txs_of(node)?;
     left_for_each(node, lost, txs.as_slice())

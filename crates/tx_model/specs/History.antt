@@ -4,11 +4,11 @@ use Rattle.std.specs.Cmp.Lexicographic.{pointwise}
 use Rattle.std.specs.List.{flat_map}
 use Rattle.std.specs.Prelude.{Bool, Err, None, Ok, Option, Result, Some, [], false, if◌then◌else◌, is_some, nat_eq, not, true, unwrap_or, ℕ, ℤ, ◌&&◌, ◌+◌, ◌==◌, ◌||◌, ◌∷◌}
 use Rattle.act_rows.specs.Accesses.{access_key}
-use Rattle.act_rows.specs.Commands.{later}
+use Rattle.act_rows.specs.Commands.{moment_after}
 use Rattle.act_rows.specs.Steps.{no_top}
-use Rattle.base_words.specs.Copies.{Found}
-use Rattle.base_words.specs.Numbers.{added}
-use Rattle.base_words.specs.Orders.{is_node, raised}
+use Rattle.part_model.specs.Copies.{Found}
+use Rattle.part_model.specs.Numbers.{sum_with_value}
+use Rattle.part_model.specs.Orders.{is_node, next_count}
 use Rattle.ignite_types.specs.Names.{key_cmp, same_tx, tx_cmp}
 use Rattle.ignite_types.specs.declared.answer.Answer.{Answer}
 use Rattle.ignite_types.specs.declared.journal.Event.{Event}
@@ -61,7 +61,7 @@ fresh_walk = record {
   block = false;
   skipping = false;
   called = None;
-  glance = None;
+  near_read = None;
   finds = [];
   near = [];
   overs = [];
@@ -71,50 +71,50 @@ fresh_walk = record {
 }
 
 -- what the near cache knows of a command's key
-abbrev pub glance_at : Walk → Option Key → Found
-glance_at w None = None
-glance_at w (Some key) = unwrap_or (at key_cmp w.near key) None
+abbrev pub near_read_at : Walk → Option Key → Found
+near_read_at w None = None
+near_read_at w (Some key) = unwrap_or (at key_cmp w.near key) None
 
-abbrev pub glances : Walk → Option Command → Walk
-glances w None = w
-glances w (Some c) = record w { glance = glance_at w (access_key c) }
+abbrev pub with_near_read : Walk → Option Command → Walk
+with_near_read w None = w
+with_near_read w (Some c) = record w { near_read = near_read_at w (access_key c) }
 
 -- an access of a started transaction is done in the act of its call
-abbrev pub glances_if_started : Walk → Option TopVer → Walk
-glances_if_started w None = w
-glances_if_started w (Some top) = glances w w.called
+abbrev pub with_near_read_if_started : Walk → Option TopVer → Walk
+with_near_read_if_started w None = w
+with_near_read_if_started w (Some top) = with_near_read w w.called
 
 -- an access outside a block is a transaction of its own, unless it is skipped
 abbrev pub is_bare : Walk → Command → Bool
 is_bare w c = is_access c && not w.block && not w.skipping
 
-abbrev pub called : Walk → Command → Walk
-called w c = if is_bare w c
-    then record w { called = Some c; started = raised w.started }
+abbrev pub walk_after_call : Walk → Command → Walk
+walk_after_call w c = if is_bare w c
+    then record w { called = Some c; started = next_count w.started }
     else record w { called = Some c }
 
 -- A find: what was found first at the primary, or else what the near cache knew.
-abbrev pub find_or : Found → Option Found → Found
-find_or glance None = glance
-find_or glance (Some found) = found
+abbrev pub find_or_near_read : Found → Option Found → Found
+find_or_near_read near_read None = near_read
+find_or_near_read near_read (Some found) = found
 
 abbrev pub find_of : Walk → Key → Found
-find_of w key = find_or w.glance (at key_cmp w.finds key)
+find_of w key = find_or_near_read w.near_read (at key_cmp w.finds key)
 
 abbrev pub value_found : Found → Option (List ℕ)
 value_found None = None
 value_found (Some (value, ver)) = Some value
 
-abbrev pub first_found : Walk → Key → Found → Walk
-first_found w key found = record w { finds = put key_cmp w.finds key found; reads = put key_cmp w.reads key (value_found found) }
+abbrev pub walk_with_first_find : Walk → Key → Found → Walk
+walk_with_first_find w key found = record w { finds = put key_cmp w.finds key found; reads = put key_cmp w.reads key (value_found found) }
 
 -- a first read of a key, before any write of it
-abbrev pub first_read : Walk → Key → Option (Option (List ℕ)) → Option (Option (List ℕ)) → Walk
-first_read w key None None = first_found w key (find_of w key)
-first_read w key _ _ = w
+abbrev pub walk_with_first_read : Walk → Key → Option (Option (List ℕ)) → Option (Option (List ℕ)) → Walk
+walk_with_first_read w key None None = walk_with_first_find w key (find_of w key)
+walk_with_first_read w key _ _ = w
 
-abbrev pub reads_key : Walk → Key → Walk
-reads_key w key = first_read w key (at key_cmp w.reads key) (at key_cmp w.writes key)
+abbrev pub walk_with_read : Walk → Key → Walk
+walk_with_read w key = walk_with_first_read w key (at key_cmp w.reads key) (at key_cmp w.writes key)
 
 abbrev pub written_before : Option (Option (List ℕ)) → Option (List ℕ) → Option (List ℕ)
 written_before None found = found
@@ -124,126 +124,126 @@ written_before (Some new) found = new
 abbrev pub known_value : Walk → Key → Option (List ℕ)
 known_value w key = written_before (at key_cmp w.writes key) (value_found (find_of w key))
 
-abbrev pub writes_key : Walk → Key → Option (List ℕ) → Walk
-writes_key w key new = record w { writes = put key_cmp w.writes key new }
+abbrev pub walk_with_write : Walk → Key → Option (List ℕ) → Walk
+walk_with_write w key new = record w { writes = put key_cmp w.writes key new }
 
-abbrev pub writes_sum : Walk → Key → Result (List ℕ) Answer → Walk
-writes_sum w key (Ok value) = writes_key w key (Some value)
-writes_sum w key (Err a) = w
+abbrev pub walk_with_sum : Walk → Key → Result (List ℕ) Answer → Walk
+walk_with_sum w key (Ok value) = walk_with_write w key (Some value)
+walk_with_sum w key (Err a) = w
 
-abbrev pub adds_key : Walk → Key → ℤ → Walk
-adds_key w key amount = writes_sum w key (added (known_value w key) amount)
+abbrev pub walk_with_add : Walk → Key → ℤ → Walk
+walk_with_add w key amount = walk_with_sum w key (sum_with_value (known_value w key) amount)
 
 -- an access is counted
-abbrev pub accessed : Walk → Command → Walk
-accessed w (command.Get key) = reads_key w key
-accessed w (command.Put key value) = writes_key w key (Some value)
-accessed w (command.Remove key) = writes_key w key None
-accessed w (command.Add key amount) = adds_key (reads_key w key) key amount
-accessed w _ = w
+abbrev pub walk_after_done_access : Walk → Command → Walk
+walk_after_done_access w (command.Get key) = walk_with_read w key
+walk_after_done_access w (command.Put key value) = walk_with_write w key (Some value)
+walk_after_done_access w (command.Remove key) = walk_with_write w key None
+walk_after_done_access w (command.Add key amount) = walk_with_add (walk_with_read w key) key amount
+walk_after_done_access w _ = w
 
 -- the call is answered; an access of this transaction that was done is counted
-abbrev pub counted_access : TxId → Walk → Command → Answer → Walk
-counted_access tx w c a = if (w.started == tx.number) && is_done a then accessed w c else w
+abbrev pub walk_after_counted_access : TxId → Walk → Command → Answer → Walk
+walk_after_counted_access tx w c a = if (w.started == tx.number) && is_done a then walk_after_done_access w c else w
 
 -- a told fault of a block lets its further accesses be skipped
-abbrev pub after_access : Walk → Answer → Walk
-after_access w (answer.Failed why) = record w { skipping = w.block || w.skipping; block = false }
-after_access w _ = w
+abbrev pub walk_after_told_fault : Walk → Answer → Walk
+walk_after_told_fault w (answer.Failed why) = record w { skipping = w.block || w.skipping; block = false }
+walk_after_told_fault w _ = w
 
-abbrev pub answered_call : TxId → Walk → Command → Answer → Walk
-answered_call tx w (command.Begin mode timeout) answer.Done =
-    record w { block = true; skipping = false; started = raised w.started }
-answered_call tx w (command.Begin mode timeout) _ = w
-answered_call tx w command.Commit a = record w { block = false; skipping = false }
-answered_call tx w command.Rollback a = record w { block = false; skipping = false }
-answered_call tx w command.Close a = record w { block = false; skipping = false }
-answered_call tx w c a = after_access (counted_access tx w c a) a
+abbrev pub walk_after_answer_to : TxId → Walk → Command → Answer → Walk
+walk_after_answer_to tx w (command.Begin mode timeout) answer.Done =
+    record w { block = true; skipping = false; started = next_count w.started }
+walk_after_answer_to tx w (command.Begin mode timeout) _ = w
+walk_after_answer_to tx w command.Commit a = record w { block = false; skipping = false }
+walk_after_answer_to tx w command.Rollback a = record w { block = false; skipping = false }
+walk_after_answer_to tx w command.Close a = record w { block = false; skipping = false }
+walk_after_answer_to tx w c a = walk_after_told_fault (walk_after_counted_access tx w c a) a
 
-abbrev pub no_call : Walk → Walk
-no_call w = record w { called = None; glance = None }
+abbrev pub walk_without_call : Walk → Walk
+walk_without_call w = record w { called = None; near_read = None }
 
-abbrev pub answered : TxId → Walk → Option Command → Answer → Walk
-answered tx w None a = w
-answered tx w (Some c) a = no_call (answered_call tx w c a)
+abbrev pub walk_after_answer : TxId → Walk → Option Command → Answer → Walk
+walk_after_answer tx w None a = w
+walk_after_answer tx w (Some c) a = walk_without_call (walk_after_answer_to tx w c a)
 
 -- the first find of a key counts, until the transaction is decided or has a fault
-abbrev pub finds_first : Walk → Key → Option Found → Found → Walk
-finds_first w key None found = record w { finds = put key_cmp w.finds key found }
-finds_first w key (Some earlier) found = w
+abbrev pub walk_with_find : Walk → Key → Option Found → Found → Walk
+walk_with_find w key None found = record w { finds = put key_cmp w.finds key found }
+walk_with_find w key (Some earlier) found = w
 
-abbrev pub is_over : Walk → TxId → Bool
-is_over w tx = has tx_cmp w.overs tx
+abbrev pub is_tx_closed : Walk → TxId → Bool
+is_tx_closed w tx = has tx_cmp w.overs tx
 
-abbrev pub finds_for : TxId → Walk → TxId → Key → Found → Walk
-finds_for tx w u key found = if same_tx u tx && not (is_over w u) then finds_first w key (at key_cmp w.finds key) found else w
+abbrev pub walk_after_find : TxId → Walk → TxId → Key → Found → Walk
+walk_after_find tx w u key found = if same_tx u tx && not (is_tx_closed w u) then walk_with_find w key (at key_cmp w.finds key) found else w
 
-abbrev pub told_near : Walk → Key → Found → Walk
-told_near w key found = record w { near = put key_cmp w.near key found }
+abbrev pub walk_with_near : Walk → Key → Found → Walk
+walk_with_near w key found = record w { near = put key_cmp w.near key found }
 
 -- a value for the near cache of the transaction's starter, until its own transaction is decided or has a fault
-abbrev pub near_got : TxId → Walk → Option NodeId → TxId → Key → Found → Walk
-near_got tx w to u key None = w
-near_got tx w to u key (Some found) = if is_node tx.node to && not (is_over w u) then told_near w key (Some found) else w
+abbrev pub walk_after_near_get : TxId → Walk → Option NodeId → TxId → Key → Found → Walk
+walk_after_near_get tx w to u key None = w
+walk_after_near_get tx w to u key (Some found) = if is_node tx.node to && not (is_tx_closed w u) then walk_with_near w key (Some found) else w
 
-abbrev pub newly_found : Option (List ℕ) → CacheVersion → Found
-newly_found None ver = None
-newly_found (Some value) ver = Some (value, ver)
+abbrev pub found_after_update : Option (List ℕ) → CacheVersion → Found
+found_after_update None ver = None
+found_after_update (Some value) ver = Some (value, ver)
 
-abbrev pub near_told : TxId → Walk → Option NodeId → Key → Option (List ℕ) → CacheVersion → Walk
-near_told tx w to key new ver = if is_node tx.node to
-    then told_near w key (newly_found new ver)
+abbrev pub walk_after_near_update : TxId → Walk → Option NodeId → Key → Option (List ℕ) → CacheVersion → Walk
+walk_after_near_update tx w to key new ver = if is_node tx.node to
+    then walk_with_near w key (found_after_update new ver)
     else w
 
-abbrev pub delivered : TxId → Walk → Option NodeId → Message → Walk
-delivered tx w to (msg.LockOk u key found) = finds_for tx w u key found
-delivered tx w to (msg.GetOk u key found) = near_got tx (finds_for tx w u key found) to u key found
-delivered tx w to (msg.NearUpdate u key new ver) = near_told tx w to key new ver
-delivered tx w to _ = w
+abbrev pub walk_after_delivery : TxId → Walk → Option NodeId → Message → Walk
+walk_after_delivery tx w to (msg.LockOk u key found) = walk_after_find tx w u key found
+walk_after_delivery tx w to (msg.GetOk u key found) = walk_after_near_get tx (walk_after_find tx w u key found) to u key found
+walk_after_delivery tx w to (msg.NearUpdate u key new ver) = walk_after_near_update tx w to key new ver
+walk_after_delivery tx w to _ = w
 
 abbrev pub is_called : TxId → ℕ → Bool
 is_called tx session = session == tx.session
 
-abbrev pub with_over : Walk → TxId → Walk
-with_over w u = record w { overs = with_member tx_cmp w.overs u }
+abbrev pub walk_with_closed : Walk → TxId → Walk
+walk_with_closed w u = record w { overs = with_member tx_cmp w.overs u }
 
-abbrev pub decided_for : TxId → Walk → TxId → Bool → Walk
-decided_for tx w u commit =
-    if same_tx u tx then with_over (record w { committed = w.committed || commit }) u else with_over w u
+abbrev pub walk_after_decide : TxId → Walk → TxId → Bool → Walk
+walk_after_decide tx w u commit =
+    if same_tx u tx then walk_with_closed (record w { committed = w.committed || commit }) u else walk_with_closed w u
 
 -- one record of the walk for this transaction; `to` is the node that takes a message in this group
-abbrev pub walked : TxId → Option NodeId → Walk → Rec → Walk
-walked tx to w (note.Call session c) = if is_called tx session then glances_if_started (called w c) w.top else w
-walked tx to w (note.Answer session a) = if is_called tx session then answered tx w w.called a else w
-walked tx to w (note.Deliver from m) = delivered tx w to m
-walked tx to w (note.Start u top) = if same_tx u tx then glances (record w { top = Some top }) w.called else w
-walked tx to w (note.Decide u commit) = decided_for tx w u commit
-walked tx to w (note.Fault u why) = with_over w u
-walked tx to w _ = w
+abbrev pub walk_after_record : TxId → Option NodeId → Walk → Rec → Walk
+walk_after_record tx to w (note.Call session c) = if is_called tx session then with_near_read_if_started (walk_after_call w c) w.top else w
+walk_after_record tx to w (note.Answer session a) = if is_called tx session then walk_after_answer tx w w.called a else w
+walk_after_record tx to w (note.Deliver from m) = walk_after_delivery tx w to m
+walk_after_record tx to w (note.Start u top) = if same_tx u tx then with_near_read (record w { top = Some top }) w.called else w
+walk_after_record tx to w (note.Decide u commit) = walk_after_decide tx w u commit
+walk_after_record tx to w (note.Fault u why) = walk_with_closed w u
+walk_after_record tx to w _ = w
 
 abbrev pub taker_of : Event → Option NodeId
 taker_of (event.Act id from) = Some id
 taker_of _ = None
 
-abbrev pub walk_recs : TxId → Option NodeId → Walk → List Rec → Walk
-walk_recs tx to w [] = w
-walk_recs tx to w (r ∷ rs) = walk_recs tx to (walked tx to w r) rs
+abbrev pub walk_after_records : TxId → Option NodeId → Walk → List Rec → Walk
+walk_after_records tx to w [] = w
+walk_after_records tx to w (r ∷ rs) = walk_after_records tx to (walk_after_record tx to w r) rs
 
-abbrev pub walk : TxId → Walk → List Group → Walk
-walk tx w [] = w
-walk tx w (g ∷ gs) = walk tx (walk_recs tx (taker_of g.event) w g.recs) gs
+abbrev pub walk_after_groups : TxId → Walk → List Group → Walk
+walk_after_groups tx w [] = w
+walk_after_groups tx w (g ∷ gs) = walk_after_groups tx (walk_after_records tx (taker_of g.event) w g.recs) gs
 
 -- where the transaction is committed its unanswered call counts too
-abbrev pub with_called : TxId → Walk → Option Command → Walk
-with_called tx w None = w
-with_called tx w (Some c) = if w.committed && (w.started == tx.number) then accessed w c else w
+abbrev pub walk_with_open_call : TxId → Walk → Option Command → Walk
+walk_with_open_call tx w None = w
+walk_with_open_call tx w (Some c) = if w.committed && (w.started == tx.number) then walk_after_done_access w c else w
 
 abbrev pub entry_from : TxId → Walk → CommitEntry
 entry_from tx w = record { tx = tx; top = unwrap_or w.top no_top; reads = w.reads; writes = w.writes }
 
 -- what the transaction read and wrote, by the whole journal
 abbrev pub footprint : List Group → TxId → CommitEntry
-footprint all tx = let w = walk tx fresh_walk all in entry_from tx (with_called tx w w.called)
+footprint all tx = let w = walk_after_groups tx fresh_walk all in entry_from tx (walk_with_open_call tx w w.called)
 
 -- The commits: the first commit decision of each transaction, in order.
 
@@ -254,10 +254,10 @@ committed_in _ = None
 
 -- the commits from a record on, where it says this is committed; the last argument gives those of the later records
 abbrev pub commits_next : List Group → List TxId → Option TxId → (List TxId → List CommitEntry) → List CommitEntry
-commits_next all seen None later = later seen
-commits_next all seen (Some tx) later = if has tx_cmp seen tx
-    then later seen
-    else footprint all tx ∷ later (with_member tx_cmp seen tx)
+commits_next all seen None moment_after = moment_after seen
+commits_next all seen (Some tx) moment_after = if has tx_cmp seen tx
+    then moment_after seen
+    else footprint all tx ∷ moment_after (with_member tx_cmp seen tx)
 
 abbrev pub commits_from : List Group → List TxId → List Rec → List CommitEntry
 commits_from all seen [] = []
@@ -284,28 +284,28 @@ abbrev pub bad_read : Map → List (Key × Option (List ℕ)) → Option Key
 bad_read m [] = None
 bad_read m (r ∷ rs) = if same_value (at key_cmp m r.0) r.1 then bad_read m rs else Some r.0
 
-abbrev pub wrote : Map → Key → Option (List ℕ) → Map
-wrote m key None = without key_cmp m key
-wrote m key (Some value) = put key_cmp m key value
+abbrev pub map_with_write : Map → Key → Option (List ℕ) → Map
+map_with_write m key None = without key_cmp m key
+map_with_write m key (Some value) = put key_cmp m key value
 
-abbrev pub written : Map → List (Key × Option (List ℕ)) → Map
-written m [] = m
-written m (w ∷ ws) = written (wrote m w.0 w.1) ws
+abbrev pub map_with_writes : Map → List (Key × Option (List ℕ)) → Map
+map_with_writes m [] = m
+map_with_writes m (w ∷ ws) = map_with_writes (map_with_write m w.0 w.1) ws
 
-abbrev pub unless_bad : Option Key → ℕ → Result Map BadRead → Result Map BadRead
-unless_bad None place rest = rest
-unless_bad (Some key) place rest = Err (record { place = place; key = key })
+abbrev pub unless_bad_read : Option Key → ℕ → Result Map BadRead → Result Map BadRead
+unless_bad_read None place rest = rest
+unless_bad_read (Some key) place rest = Err (record { place = place; key = key })
 
 -- the map after the entries, the first of which stands at this place, or the first bad read
 abbrev pub serial_from : ℕ → Map → List CommitEntry → Result Map BadRead
 serial_from place m [] = Ok m
-serial_from place m (e ∷ es) = unless_bad (bad_read m e.reads) place (serial_from (place + 1) (written m e.writes) es)
+serial_from place m (e ∷ es) = unless_bad_read (bad_read m e.reads) place (serial_from (place + 1) (map_with_writes m e.writes) es)
 
 -- the map after the entries, from the empty map
 abbrev pub serial : List CommitEntry → Result Map BadRead
 serial entries = serial_from 0 [] entries
 
 -- the map that the entries' writes leave, whatever they read
-abbrev pub map_after : Map → List CommitEntry → Map
-map_after m [] = m
-map_after m (e ∷ es) = map_after (written m e.writes) es
+abbrev pub map_after_commits : Map → List CommitEntry → Map
+map_after_commits m [] = m
+map_after_commits m (e ∷ es) = map_after_commits (map_with_writes m e.writes) es

@@ -2,11 +2,11 @@
 use Rattle.std.specs.List.{flat_map}
 use Rattle.std.specs.Ordering.{nat_cmp}
 use Rattle.std.specs.Prelude.{Bool, None, Option, Some, [], false, if◌then◌else◌, map, true, ℕ, ◌++◌, ◌∷◌}
-use Rattle.act_rows.specs.Commands.{new_desk}
-use Rattle.base_words.specs.Copies.{Copy}
-use Rattle.base_words.specs.Directory.{first_top, node_set, opening_directory, running_from}
-use Rattle.base_words.specs.Links.{Inbox, new_inbox}
-use Rattle.base_words.specs.NextMap.{is_member, servers}
+use Rattle.act_rows.specs.Commands.{new_session_state}
+use Rattle.part_model.specs.Copies.{Copy}
+use Rattle.part_model.specs.Directory.{first_top, node_set, opening_directory, running_from}
+use Rattle.part_model.specs.Links.{Inbox, new_inbox}
+use Rattle.part_model.specs.NextMap.{is_member, servers}
 use Rattle.ignite_types.specs.Affinity.{opening_map}
 use Rattle.ignite_types.specs.Good.{members}
 use Rattle.ignite_types.specs.Names.{same_node}
@@ -21,9 +21,9 @@ use Rattle.ignite_types.specs.declared.scenario.Scenario.{Scenario}
 use Rattle.ignite_types.specs.declared.scenario.Session.{Session}
 use Rattle.ignite_types.specs.declared.scenario.Step.{Step}
 use Rattle.node_state.specs.Node.{NodeState}
-use Rattle.node_state.specs.declared.session.Desk.{Desk}
+use Rattle.node_state.specs.declared.session.SessionState.{SessionState}
 use Rattle.ordered_table.specs.Entries.{put}
-use Rattle.tx_model.specs.World.{Part, World, ids}
+use Rattle.tx_model.specs.World.{Part, World, node_ids}
 use Rattle.node_state.specs.declared.life.Life.TheVariants as life
 use Rattle.ignite_types.specs.declared.scenario.Step.TheVariants as step
 
@@ -31,14 +31,14 @@ abbrev pub opening_map_of : Scenario → PartMap
 opening_map_of scenario =
     opening_map first_top (servers scenario.nodes) scenario.caches (running_from 0 scenario.caches)
 
-abbrev pub desk_if_on : NodeId → ℕ → List (ℕ × Desk) → Session → List (ℕ × Desk)
-desk_if_on id number desks session =
-    if same_node session.node id then put nat_cmp desks number (new_desk session.commands) else desks
+abbrev pub with_session_if_on : NodeId → ℕ → List (ℕ × SessionState) → Session → List (ℕ × SessionState)
+with_session_if_on id number session_states session =
+    if same_node session.node id then put nat_cmp session_states number (new_session_state session.commands) else session_states
 
 -- the sessions on a node, by their numbers, the first of these having this number
-abbrev pub desks_on : NodeId → ℕ → List (ℕ × Desk) → List Session → List (ℕ × Desk)
-desks_on id number desks [] = desks
-desks_on id number desks (session ∷ more) = desks_on id (capped number 1) (desk_if_on id number desks session) more
+abbrev pub session_states_on : NodeId → ℕ → List (ℕ × SessionState) → List Session → List (ℕ × SessionState)
+session_states_on id number session_states [] = session_states
+session_states_on id number session_states (session ∷ more) = session_states_on id (capped number 1) (with_session_if_on id number session_states session) more
 
 -- so many empty copies
 abbrev pub empty_copies : List Row → List Copy
@@ -62,7 +62,7 @@ opening_node scenario m id initial = record {
   left = [];
   installed = map_if initial m;
   opened = if initial then Some first_top else None;
-  desks = desks_on id 1 [] scenario.sessions;
+  session_states = session_states_on id 1 [] scenario.sessions;
   txs = [];
   near = [];
   stores = empty_copies m.rows;
@@ -99,27 +99,27 @@ declared_nodes scenario = scenario.nodes ++ flat_map joiner_of scenario.plan
 abbrev pub ids_of : Scenario → List NodeId
 ids_of scenario = node_set [] (declared_nodes scenario)
 
-abbrev pub homes_from : ℕ → List (ℕ × NodeId) → List Session → List (ℕ × NodeId)
-homes_from number homes [] = homes
-homes_from number homes (session ∷ more) = homes_from (capped number 1) (put nat_cmp homes number session.node) more
+abbrev pub session_nodes_from : ℕ → List (ℕ × NodeId) → List Session → List (ℕ × NodeId)
+session_nodes_from number session_nodes [] = session_nodes
+session_nodes_from number session_nodes (session ∷ more) = session_nodes_from (capped number 1) (put nat_cmp session_nodes number session.node) more
 
 abbrev pub opening_part : Scenario → PartMap → NodeId → Part
 opening_part scenario m id = let initial = is_member scenario.nodes id in
     record { node = opening_node scenario m id initial; life = if initial then life.Alive else life.Absent }
 
 abbrev pub opening_parts : Scenario → PartMap → List NodeId → List Part
-opening_parts scenario m ids = map (opening_part scenario m) ids
+opening_parts scenario m node_ids = map (opening_part scenario m) node_ids
 
 -- an empty inbox for each node
 abbrev pub opening_inboxes : List NodeId → List NodeId → List Inbox
-opening_inboxes senders ids = map (λ (id : NodeId). new_inbox senders) ids
+opening_inboxes senders node_ids = map (λ (id : NodeId). new_inbox senders) node_ids
 
 abbrev pub opening_with : Scenario → PartMap → World
 opening_with scenario m = record {
   directory = opening_directory scenario;
   parts = opening_parts scenario m (ids_of scenario);
   inboxes = opening_inboxes (ids_of scenario) (ids_of scenario);
-  homes = homes_from 1 [] scenario.sessions;
+  session_nodes = session_nodes_from 1 [] scenario.sessions;
   broken = false;
 }
 

@@ -6,18 +6,18 @@ use Rattle.ignite_types.specs.declared.journal.Group.{Group}
 use Rattle.ignite_types.specs.declared.journal.Journal.{Journal}
 use Rattle.ignite_types.specs.declared.list.List.{List}
 use Rattle.tx_model.specs.Opening.{opening}
-use Rattle.tx_model.specs.World.{World, all_over, enabled, outcome, possible}
+use Rattle.tx_model.specs.World.{World, all_sessions_over, is_enabled, outcome, possible}
 use Rattle.ignite_types.specs.declared.journal.End.TheVariants as end
 use Rattle.ignite_types.specs.declared.journal.Event.TheVariants as event
 
 -- the world after these groups' events
-abbrev pub after : World → List Group → World
-after w [] = w
-after w (g ∷ gs) = after (outcome w g.event).world gs
+abbrev pub world_after : World → List Group → World
+world_after w [] = w
+world_after w (g ∷ gs) = world_after (outcome w g.event).world gs
 
 -- the group's event is possible, and it notes what the machine notes
 pub record IsStep (w : World) (g : Group) : Type 0 where
-  pub possible_event : IsTrue (enabled w g.event)
+  pub possible_event : IsTrue (is_enabled w g.event)
   pub same_records : g.recs ≡ (outcome w g.event).recs
 
 -- each group is a step of the machine
@@ -27,15 +27,15 @@ AreSteps w (g ∷ gs) = IsStep w g × AreSteps (outcome w g.event).world gs
 
 -- what the run's end says of the world in which it ends; after want of memory a run has no other end
 abbrev pub EndsAt : World → End → Type 0
-EndsAt w end.AllEnded = (possible w ≡ []) × (all_over w ≡ true) × (w.broken ≡ false)
-EndsAt w end.Stalled = (possible w ≡ []) × (all_over w ≡ false) × (w.broken ≡ false)
+EndsAt w end.AllEnded = (possible w ≡ []) × (all_sessions_over w ≡ true) × (w.broken ≡ false)
+EndsAt w end.Stalled = (possible w ≡ []) × (all_sessions_over w ≡ false) × (w.broken ≡ false)
 EndsAt w end.StepLimit = w.broken ≡ false
 EndsAt w end.Memory = Unit {0}
 
 -- the journal is the machine's own, from its scenario's opening world to its end
 pub record IsLegal (j : Journal) : Type 0 where
   pub steps : AreSteps (opening j.scenario) j.groups
-  pub end : EndsAt (after (opening j.scenario) j.groups) j.end
+  pub end : EndsAt (world_after (opening j.scenario) j.groups) j.end
 
 abbrev pub is_memory : Event → Bool
 is_memory (event.Memory id) = true

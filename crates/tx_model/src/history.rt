@@ -28,7 +28,7 @@ pub struct BadRead {
 
 /// What the walk of a transaction found, once all records are walked; a call that is not answered is counted where it was done.
 pub fn entry_of(alloc: Global, walk: &mut Walk, tx: &TxId) -> Mem<CommitEntry>
-    ensures { IfOk result (λ entry. entry ≡ history.entry_from tx.now (history.with_called tx.now walk.old walk.old.called)) }
+    ensures { IfOk result (λ entry. entry ≡ history.entry_from tx.now (history.walk_with_open_call tx.now walk.old walk.old.called)) }
 {
     walk.count_called(tx)?;
     Ok(CommitEntry {
@@ -96,7 +96,7 @@ fn bad_read(map: &Table<Key, Value>, reads: &[(Key, Option<Value>)]) -> Option<K
 }
 
 fn write(map: &mut Table<Key, Value>, key: &Key, new: &Option<Value>) -> Mem<()>
-    ensures { OnOk result (map.new ≡ history.wrote map.old key.now new.now) }
+    ensures { OnOk result (map.new ≡ history.map_with_write map.old key.now new.now) }
 {
     match new {
         Some(value) => map.set(*key, *value),
@@ -108,7 +108,7 @@ fn write(map: &mut Table<Key, Value>, key: &Key, new: &Option<Value>) -> Mem<()>
 }
 
 fn write_all(map: &mut Table<Key, Value>, writes: &[(Key, Option<Value>)]) -> Mem<()>
-    ensures { OnOk result (map.new ≡ history.written map.old writes.now) }
+    ensures { OnOk result (map.new ≡ history.map_with_writes map.old writes.now) }
 {
     for (key, new) in writes {
         write(map, key, new)?;

@@ -4,7 +4,7 @@ ghost use Rattle.std.specs.Prelude.{◌≡◌, false, OnOk};
 ghost use Rattle.ignite_types.specs.Names.{key_cmp};
 ghost use Rattle.ordered_table.specs.Entries.{at};
 ghost use Rattle.act_rows.specs.Accesses.{access_key};
-ghost use Rattle.base_words.specs.Orders.{is_node};
+ghost use Rattle.part_model.specs.Orders.{is_node};
 ghost use Rattle.tx_model.specs.History as history;
 
 use ignite_types::{
@@ -30,7 +30,7 @@ pub struct Walk {
     /// The session's command that is not answered yet.
     pub called: Option<Command>,
     /// What the near cache knew of that command's key at its act.
-    pub glance: Option<(Value, CacheVersion)>,
+    pub near_read: Option<(Value, CacheVersion)>,
     /// What was first found for it at each key.
     pub finds: Table<Key, Option<(Value, CacheVersion)>>,
     /// What its starter's near cache was last told of each key.
@@ -81,7 +81,7 @@ fn value_found(found: &Found) -> Option<Value>
 
 /// What an update tells of a key.
 pub fn newly_found(new: &Option<Value>, ver: CacheVersion) -> Found
-    ensures { result ≡ history.newly_found new.now ver }
+    ensures { result ≡ history.found_after_update new.now ver }
 {
     match new {
         Some(value) => Some((*value, ver)),
@@ -110,7 +110,7 @@ impl Walk {
             block: false,
             skipping: false,
             called: None,
-            glance: None,
+            near_read: None,
             finds: Table::new(alloc),
             near: Table::new(alloc),
             overs: Set::new(alloc),
@@ -121,8 +121,8 @@ impl Walk {
     }
 
     /// What the near cache knows of a command's key.
-    fn glance_at(&self, command: &Command) -> Found
-        ensures { result ≡ history.glance_at self.now (access_key command.now) }
+    fn near_read_at(&self, command: &Command) -> Found
+        ensures { result ≡ history.near_read_at self.now (access_key command.now) }
     {
         match access_key(command) {
             Some(key) => match self.near.get(&key) {
@@ -134,18 +134,18 @@ impl Walk {
     }
 
     /// The called command looks at the near cache.
-    fn glance(&mut self)
-        ensures { self.new ≡ history.glances self.old self.old.called }
+    fn near_read(&mut self)
+        ensures { self.new ≡ history.with_near_read self.old self.old.called }
     {
         if let Some(command) = &self.called {
-            let found = self.glance_at(command);
-            self.glance = found;
+            let found = self.near_read_at(command);
+            self.near_read = found;
         }
     }
 
     /// A command is called; an access outside a block is a transaction of its own, unless it is skipped.
     fn call(&mut self, command: &Command)
-        ensures { self.new ≡ history.called self.old command.now }
+        ensures { self.new ≡ history.walk_after_call self.old command.now }
     {
         if access_key(command).is_some() && !self.block && !self.skipping {
             self.started = self.started.saturating_add(1);
@@ -159,12 +159,12 @@ impl Walk {
     {
         match self.finds.get(key) {
             Some(found) => *found,
-            None => self.glance,
+            None => self.near_read,
         }
     }
 
     fn keep_first(&mut self, key: &Key, found: &Found) -> Mem<()>
-        ensures { OnOk result (self.new ≡ history.first_found self.old key.now found.now) }
+        ensures { OnOk result (self.new ≡ history.walk_with_first_find self.old key.now found.now) }
     {
         self.finds.set(*key, *found)?;
         self.reads.set(*key, value_found(found))
@@ -172,7 +172,7 @@ impl Walk {
 
     /// A read is kept where it is the key's first, before any write of it.
     fn read(&mut self, key: &Key) -> Mem<()>
-        ensures { OnOk result (self.new ≡ history.reads_key self.old key.now) }
+        ensures { OnOk result (self.new ≡ history.walk_with_read self.old key.now) }
     {
         match self.reads.get(key) {
             Some(_) => Ok(()),
@@ -197,13 +197,13 @@ impl Walk {
     }
 
     fn write(&mut self, key: &Key, new: Option<Value>) -> Mem<()>
-        ensures { OnOk result (self.new ≡ history.writes_key self.old key.now new) }
+        ensures { OnOk result (self.new ≡ history.walk_with_write self.old key.now new) }
     {
         self.writes.set(*key, new)
     }
 
     fn add(&mut self, key: &Key, amount: i64) -> Mem<()>
-        ensures { OnOk result (self.new ≡ history.adds_key self.old key.now amount) }
+        ensures { OnOk result (self.new ≡ history.walk_with_add self.old key.now amount) }
     {
         match added(&self.known_value(key), amount) {
             Ok(value) => self.write(key, Some(value)),
@@ -213,7 +213,7 @@ impl Walk {
 
     /// An access is counted.
     pub fn access(&mut self, command: &Command) -> Mem<()>
-        ensures { OnOk result (self.new ≡ history.accessed self.old command.now) }
+        ensures { OnOk result (self.new ≡ history.walk_after_done_access self.old command.now) }
     {
         match command {
             Command::Get(key) => self.read(key),
@@ -229,7 +229,7 @@ impl Walk {
 
     /// An access of this transaction that was done is counted.
     fn count_access(&mut self, tx: &TxId, command: &Command, answer: &Answer) -> Mem<()>
-        ensures { OnOk result (self.new ≡ history.counted_access tx.now self.old command.now answer.now) }
+        ensures { OnOk result (self.new ≡ history.walk_after_counted_access tx.now self.old command.now answer.now) }
     {
         if self.started == tx.number && is_done(answer) {
             self.access(command)
@@ -240,7 +240,7 @@ impl Walk {
 
     /// A told fault of a block lets its further accesses be skipped.
     fn after_access(&mut self, answer: &Answer)
-        ensures { self.new ≡ history.after_access self.old answer.now }
+        ensures { self.new ≡ history.walk_after_told_fault self.old answer.now }
     {
         match answer {
             Answer::Failed(_) => {
@@ -260,7 +260,7 @@ impl Walk {
 
     /// The call is answered.
     fn answer_call(&mut self, tx: &TxId, command: &Command, answer: &Answer) -> Mem<()>
-        ensures { OnOk result (self.new ≡ history.answered_call tx.now self.old command.now answer.now) }
+        ensures { OnOk result (self.new ≡ history.walk_after_answer_to tx.now self.old command.now answer.now) }
     {
         match (command, answer) {
             (Command::Begin(_, _), Answer::Done) => {
@@ -292,7 +292,7 @@ impl Walk {
 
     /// The pending call, if there is one, is answered.
     pub fn answer(&mut self, tx: &TxId, answer: &Answer) -> Mem<()>
-        ensures { OnOk result (self.new ≡ history.answered tx.now self.old self.old.called answer.now) }
+        ensures { OnOk result (self.new ≡ history.walk_after_answer tx.now self.old self.old.called answer.now) }
     {
         let command = match &self.called {
             Some(command) => *command,
@@ -300,13 +300,13 @@ impl Walk {
         };
         self.answer_call(tx, &command, answer)?;
         self.called = None;
-        self.glance = None;
+        self.near_read = None;
         Ok(())
     }
 
     /// The first find of a key counts, until the transaction is decided or has a fault.
     fn find(&mut self, tx: &TxId, asker: &TxId, key: &Key, found: &Found) -> Mem<()>
-        ensures { OnOk result (self.new ≡ history.finds_for tx.now self.old asker.now key.now found.now) }
+        ensures { OnOk result (self.new ≡ history.walk_after_find tx.now self.old asker.now key.now found.now) }
     {
         if asker == tx && !self.overs.contains(asker) {
             match self.finds.get(key) {
@@ -319,7 +319,7 @@ impl Walk {
     }
 
     fn tell_near(&mut self, key: &Key, found: &Found) -> Mem<()>
-        ensures { OnOk result (self.new ≡ history.told_near self.old key.now found.now) }
+        ensures { OnOk result (self.new ≡ history.walk_with_near self.old key.now found.now) }
     {
         self.near.set(*key, *found)
     }
@@ -333,7 +333,7 @@ impl Walk {
         key: &Key,
         found: &Found,
     ) -> Mem<()>
-        ensures { OnOk result (self.new ≡ history.near_got tx.now self.old to asker.now key.now found.now) }
+        ensures { OnOk result (self.new ≡ history.walk_after_near_get tx.now self.old to asker.now key.now found.now) }
     {
         match found {
             Some(value) => {
@@ -355,7 +355,7 @@ impl Walk {
         new: &Option<Value>,
         ver: CacheVersion,
     ) -> Mem<()>
-        ensures { OnOk result (self.new ≡ history.near_told tx.now self.old to key.now new.now ver) }
+        ensures { OnOk result (self.new ≡ history.walk_after_near_update tx.now self.old to key.now new.now ver) }
     {
         if is_node(tx.node, to) {
             self.tell_near(key, &newly_found(new, ver))
@@ -365,7 +365,7 @@ impl Walk {
     }
 
     fn deliver(&mut self, tx: &TxId, to: Option<NodeId>, message: &Message) -> Mem<()>
-        ensures { OnOk result (self.new ≡ history.delivered tx.now self.old to message.now) }
+        ensures { OnOk result (self.new ≡ history.walk_after_delivery tx.now self.old to message.now) }
     {
         match message {
             Message::LockOk {
@@ -393,16 +393,16 @@ impl Walk {
 
     /// A command of this transaction's session is called.
     fn call_of_session(&mut self, command: &Command)
-        ensures { self.new ≡ history.glances_if_started (history.called self.old command.now) self.old.top }
+        ensures { self.new ≡ history.with_near_read_if_started (history.walk_after_call self.old command.now) self.old.top }
     {
         self.call(command);
         if self.top.is_some() {
-            self.glance();
+            self.near_read();
         }
     }
 
     fn decide(&mut self, tx: &TxId, decided: &TxId, commit: bool) -> Mem<()>
-        ensures { OnOk result (self.new ≡ history.decided_for tx.now self.old decided.now commit) }
+        ensures { OnOk result (self.new ≡ history.walk_after_decide tx.now self.old decided.now commit) }
     {
         if decided == tx {
             self.committed = self.committed || commit;
@@ -412,7 +412,7 @@ impl Walk {
 
     /// One record, walked for this transaction; `to` is the node that takes a message in its group.
     fn step(&mut self, tx: &TxId, to: Option<NodeId>, rec: &Rec) -> Mem<()>
-        ensures { OnOk result (self.new ≡ history.walked tx.now to self.old rec.now) }
+        ensures { OnOk result (self.new ≡ history.walk_after_record tx.now to self.old rec.now) }
     {
         match rec {
             Rec::Call { session, command } => {
@@ -432,7 +432,7 @@ impl Walk {
             Rec::Start { tx: started, top } => {
                 if started == tx {
                     self.top = Some(*top);
-                    self.glance();
+                    self.near_read();
                 }
                 Ok(())
             }
@@ -446,7 +446,7 @@ impl Walk {
     }
 
     fn walk_group(&mut self, tx: &TxId, to: Option<NodeId>, recs: &[Rec]) -> Mem<()>
-        ensures { OnOk result (self.new ≡ history.walk_recs tx.now to self.old recs.now) }
+        ensures { OnOk result (self.new ≡ history.walk_after_records tx.now to self.old recs.now) }
     {
         for rec in recs {
             self.step(tx, to, rec)?;
@@ -456,7 +456,7 @@ impl Walk {
 
     /// All records of these groups, walked in their order.
     pub(crate) fn walk(&mut self, tx: &TxId, groups: &[Group]) -> Mem<()>
-        ensures { OnOk result (self.new ≡ history.walk tx.now self.old groups.now) }
+        ensures { OnOk result (self.new ≡ history.walk_after_groups tx.now self.old groups.now) }
     {
         for group in groups {
             self.walk_group(tx, taker_of(&group.event), group.recs.as_slice())?;
@@ -466,7 +466,7 @@ impl Walk {
 
     /// Where the transaction is committed its unanswered call counts too.
     pub(crate) fn count_called(&mut self, tx: &TxId) -> Mem<()>
-        ensures { OnOk result (self.new ≡ history.with_called tx.now self.old self.old.called) }
+        ensures { OnOk result (self.new ≡ history.walk_with_open_call tx.now self.old self.old.called) }
     {
         let command = match &self.called {
             Some(command) => *command,

@@ -2,12 +2,12 @@
 
 ghost use Rattle.std.specs.Prelude.{◌≡◌, ◌++◌, OnOk, IfOk, map, filter};
 ghost use Rattle.std.specs.Option.{option_copied};
-ghost use Rattle.base_words.specs.Queues.{standing_in, with_members};
-ghost use Rattle.base_words.specs.Tables.{keys_in};
+ghost use Rattle.part_model.specs.Queues.{queued_txs, with_members};
+ghost use Rattle.part_model.specs.Tables.{keys_in};
 ghost use Rattle.ordered_set.specs.Members.{has};
 ghost use Rattle.ignite_types.specs.Names.{tx_cmp, share_cmp};
 ghost use Rattle.ordered_table.specs.Entries.{put};
-ghost use Rattle.act_rows.specs.Recovery.{backup_txs, backup_shares, held_backups, held_of, held_txs, orphan_of, orphan_txs, orphans_among, orphans_of, shares_known};
+ghost use Rattle.act_rows.specs.Recovery.{backup_shares, backup_txs, held_backups, held_shares_of, held_txs, orphan_of, orphan_txs, orphans_among, orphans_of, shares_known};
 ghost use Rattle.act_rows.specs.Steps.{share_of};
 
 use ignite_types::{List, Mem, NodeId, Orphan, Share, ShareState, TxId};
@@ -78,7 +78,7 @@ fn held_backups(node: &Node, tx: &TxId) -> Mem<Table<Share, ShareState>>
 
 /// The node's shares of a transaction with their states, ascending.
 fn held_of(node: &Node, tx: &TxId) -> Mem<List<(Share, ShareState)>>
-    ensures { IfOk result (λ held. held ≡ held_of node.now tx.now) }
+    ensures { IfOk result (λ held. held ≡ held_shares_of node.now tx.now) }
 {
     let mut held = held_backups(node, tx)?;
     if let Some(share) = node.share(tx) {

@@ -1,10 +1,10 @@
 //! Rounds of recovery: each loss begins one, and the oldest member decides once it has the lists of all members.
 
 ghost use Rattle.std.specs.Prelude.{◌≡◌, ◌++◌, OnOk, IfOk};
-ghost use Rattle.act_rows.specs.Recovery.{acts_on_round, all_reported, begins_round, finish_nodes, gives_verdict, has_acted, has_locks, has_report, is_recoverer, judges, judges_each, lockers, names_of, orphan_names, orphans_message, orphans_row, orphans_for, orphans_of_tx, primaries_of, recovers_if_all, recovery_calm, reports_for, sends_orphans, starts_round, verdict_outs};
+ghost use Rattle.act_rows.specs.Recovery.{after_act_on_round, after_begin_round, after_give_verdict, after_judge, after_judge_each, after_orphans, after_recover_if_all, after_send_orphans, all_reported, finish_nodes, has_locks, has_report, is_recoverer, is_recovery_settled, lockers, names_of, orphan_names, orphans_for, orphans_message, orphans_of_tx, primaries_of, reports_for, verdict_outs, with_new_round, with_round_acted};
 ghost use Rattle.ignite_types.specs.Names.{tx_cmp};
 ghost use Rattle.ordered_table.specs.Entries.{at};
-ghost use Rattle.base_words.specs.Queues.{with_members};
+ghost use Rattle.part_model.specs.Queues.{with_members};
 
 use crate::orphans::orphans_of;
 use crate::verdicts::{is_settled, shares_named, verdict};
@@ -170,7 +170,7 @@ fn give_verdict(
     shares: &[Share],
     lockers: &[NodeId],
 ) -> Mem<()>
-    ensures { OnOk result (node.new ≡ gives_verdict node.old tx commit shares.now lockers.now) }
+    ensures { OnOk result (node.new ≡ after_give_verdict node.old tx commit shares.now lockers.now) }
 {
     let nodes = finish_nodes(node, shares, lockers)?;
     let backups = orphaned(node, shares)?;
@@ -199,7 +199,7 @@ fn judge(
     orphans: &[Orphan],
     lockers: &[NodeId],
 ) -> Mem<()>
-    ensures { OnOk result (node.new ≡ judges node.old tx members.now orphans.now lockers.now) }
+    ensures { OnOk result (node.new ≡ after_judge node.old tx members.now orphans.now lockers.now) }
 {
     let settled = is_settled(node.alloc, orphans)?;
     let kept = kept_verdict(node, &tx);
@@ -212,7 +212,7 @@ fn judge(
 }
 
 fn judge_each(node: &mut Node, members: &[Member], reports: &[Report], txs: &[TxId]) -> Mem<()>
-    ensures { OnOk result (node.new ≡ judges_each node.old members.now reports.now txs.now) }
+    ensures { OnOk result (node.new ≡ after_judge_each node.old members.now reports.now txs.now) }
 {
     for tx in txs {
         let orphans = orphans_for(node.alloc, tx, reports)?;
@@ -224,7 +224,7 @@ fn judge_each(node: &mut Node, members: &[Member], reports: &[Report], txs: &[Tx
 
 /// The recoverer has acted on its round.
 fn set_acted(node: &mut Node)
-    ensures { node.new ≡ has_acted node.old }
+    ensures { node.new ≡ with_round_acted node.old }
 {
     if let Some(round) = &mut node.state.round {
         round.acted = true;
@@ -232,7 +232,7 @@ fn set_acted(node: &mut Node)
 }
 
 fn act_on_round(node: &mut Node, members: &[Member], reports: &[Report]) -> Mem<()>
-    ensures { OnOk result (node.new ≡ acts_on_round node.old members.now reports.now) }
+    ensures { OnOk result (node.new ≡ after_act_on_round node.old members.now reports.now) }
 {
     let names = names_of(node.alloc, reports)?;
     set_acted(node);
@@ -251,7 +251,7 @@ fn is_recoverer(node: &Node, round: &Round) -> bool
 
 /// The recoverer acts once it has the lists of all members.
 fn recover_if_all(node: &mut Node) -> Mem<()>
-    ensures { OnOk result (node.new ≡ recovers_if_all node.old node.old.round) }
+    ensures { OnOk result (node.new ≡ after_recover_if_all node.old node.old.round) }
 {
     let Some(round) = &node.state.round else {
         return Ok(());
@@ -271,7 +271,7 @@ fn recover_if_all(node: &mut Node) -> Mem<()>
 
 /// Orphans: kept under its round.
 pub fn on_orphans(node: &mut Node, from: NodeId, round: u64, list: List<Orphan>) -> Mem<()>
-    ensures { OnOk result (node.new ≡ orphans_row node.old from round list) }
+    ensures { OnOk result (node.new ≡ after_orphans node.old from round list) }
 {
     node.state.reports.push(Report { round, from, list })?;
     recover_if_all(node)
@@ -287,7 +287,7 @@ fn orphans_message(node: &Node, round: u64) -> Mem<Message>
 
 /// This node's list goes to the oldest member.
 fn send_orphans(node: &mut Node, round: u64) -> Mem<()>
-    ensures { OnOk result (node.new ≡ sends_orphans node.old round) }
+    ensures { OnOk result (node.new ≡ after_send_orphans node.old round) }
 {
     let message = orphans_message(node, round)?;
     let oldest = node.oldest();
@@ -296,7 +296,7 @@ fn send_orphans(node: &mut Node, round: u64) -> Mem<()>
 
 /// A round after a loss, before any list came.
 fn new_round(node: &mut Node, place: u64) -> Mem<()>
-    ensures { OnOk result (node.new ≡ starts_round node.old place) }
+    ensures { OnOk result (node.new ≡ with_new_round node.old place) }
 {
     let members = List::from_slice(node.alloc, node.state.members.as_slice())?;
     let round = Round {
@@ -312,7 +312,7 @@ fn new_round(node: &mut Node, place: u64) -> Mem<()>
 
 /// A loss begins a new round: this node's list goes to the oldest member.
 pub fn begin_round(node: &mut Node, place: u64) -> Mem<()>
-    ensures { OnOk result (node.new ≡ begins_round node.old place) }
+    ensures { OnOk result (node.new ≡ after_begin_round node.old place) }
 {
     new_round(node, place)?;
     send_orphans(node, place)
@@ -320,7 +320,7 @@ pub fn begin_round(node: &mut Node, place: u64) -> Mem<()>
 
 /// Whether this node is no recoverer, or its round is settled: it has acted, and nothing is awaited.
 pub fn is_calm(node: &Node) -> bool
-    ensures { result ≡ recovery_calm node.now node.now.round }
+    ensures { result ≡ is_recovery_settled node.now node.now.round }
 {
     match &node.state.round {
         Some(round) => {

@@ -1,7 +1,7 @@
 //! Verdicts, by what the members report of a transaction.
 
 ghost use Rattle.std.specs.Prelude.{◌≡◌, ◌++◌, IfOk};
-ghost use Rattle.base_words.specs.Verdicts.{all_committed, is_committed, is_committed_in, is_ready, is_ready_in, is_settled, members_ready, reported, shares_named, verdict};
+ghost use Rattle.part_model.specs.Verdicts.{all_shares_committed, is_committed_share, is_committed_state, is_ready, is_ready_in, is_settled, members_ready, reported_shares, shares_named, verdict};
 
 use ignite_types::{List, Mem, Member, NodeId, Orphan, Share, ShareState};
 use node_steps::is_member;
@@ -9,7 +9,7 @@ use std::alloc::Global;
 
 /// All that the lists report of shares.
 fn reported(alloc: Global, orphans: &[Orphan]) -> Mem<List<(Share, ShareState)>>
-    ensures { IfOk result (λ held. held ≡ reported orphans.now) }
+    ensures { IfOk result (λ held. held ≡ reported_shares orphans.now) }
 {
     let mut held = List::new(alloc);
     for orphan in orphans {
@@ -19,7 +19,7 @@ fn reported(alloc: Global, orphans: &[Orphan]) -> Mem<List<(Share, ShareState)>>
 }
 
 fn is_committed(state: ShareState) -> bool
-    ensures { result ≡ is_committed state }
+    ensures { result ≡ is_committed_state state }
 {
     match state {
         ShareState::Committed => true,
@@ -39,7 +39,7 @@ fn is_ready(state: ShareState) -> bool
 
 /// Whether some share is reported Committed.
 fn is_committed_in(held: &[(Share, ShareState)]) -> bool
-    ensures { result ≡ is_committed_in held.now }
+    ensures { result ≡ is_committed_share held.now }
 {
     for (_, state) in held {
         if is_committed(*state) {
@@ -50,7 +50,7 @@ fn is_committed_in(held: &[(Share, ShareState)]) -> bool
 }
 
 fn all_committed(held: &[(Share, ShareState)]) -> bool
-    ensures { result ≡ all_committed held.now }
+    ensures { result ≡ all_shares_committed held.now }
 {
     for (_, state) in held {
         if !is_committed(*state) {

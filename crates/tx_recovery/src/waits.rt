@@ -1,7 +1,7 @@
 //! What the recoverer awaits.
 
 ghost use Rattle.std.specs.Prelude.{◌≡◌, OnOk, IfOk};
-ghost use Rattle.act_rows.specs.Recovery.{awaits_backups, awaits_finishes, awaits_verdict, recovery_backup_finished, recovery_finished};
+ghost use Rattle.act_rows.specs.Recovery.{after_backup_finished_at_recoverer, after_finished_at_recoverer, with_backup_waits, with_finish_waits, with_verdict_awaited};
 
 use ignite_types::{Mem, NodeId, Share, TxId};
 use node_state::{BackupWait, FinishWait};
@@ -9,7 +9,7 @@ use node_steps::Node;
 use ordered_set::Set;
 
 fn add_finishes(set: &mut Set<FinishWait>, tx: TxId, nodes: &[NodeId]) -> Mem<()>
-    ensures { OnOk result (set.new ≡ awaits_finishes set.old tx nodes.now) }
+    ensures { OnOk result (set.new ≡ with_finish_waits set.old tx nodes.now) }
 {
     for node in nodes {
         let node = *node;
@@ -19,7 +19,7 @@ fn add_finishes(set: &mut Set<FinishWait>, tx: TxId, nodes: &[NodeId]) -> Mem<()
 }
 
 fn add_backups(set: &mut Set<BackupWait>, tx: TxId, shares: &[Share]) -> Mem<()>
-    ensures { OnOk result (set.new ≡ awaits_backups set.old tx shares.now) }
+    ensures { OnOk result (set.new ≡ with_backup_waits set.old tx shares.now) }
 {
     for share in shares {
         set.insert(BackupWait {
@@ -38,7 +38,7 @@ pub(crate) fn await_verdict(
     nodes: &[NodeId],
     backups: &[Share],
 ) -> Mem<()>
-    ensures { OnOk result (node.new ≡ awaits_verdict node.old tx nodes.now backups.now) }
+    ensures { OnOk result (node.new ≡ with_verdict_awaited node.old tx nodes.now backups.now) }
 {
     match &mut node.state.round {
         Some(round) => {
@@ -51,7 +51,7 @@ pub(crate) fn await_verdict(
 
 /// Finished, to the recoverer.
 pub fn on_recovery_finished(node: &mut Node, from: NodeId, tx: TxId)
-    ensures { node.new ≡ recovery_finished node.old from tx }
+    ensures { node.new ≡ after_finished_at_recoverer node.old from tx }
 {
     if let Some(round) = &mut node.state.round {
         round.finishes.remove(&FinishWait { tx, node: from });
@@ -60,7 +60,7 @@ pub fn on_recovery_finished(node: &mut Node, from: NodeId, tx: TxId)
 
 /// BackupFinished, to the recoverer.
 pub fn on_recovery_backup_finished(node: &mut Node, from: NodeId, tx: TxId, primary: NodeId)
-    ensures { node.new ≡ recovery_backup_finished node.old from tx primary }
+    ensures { node.new ≡ after_backup_finished_at_recoverer node.old from tx primary }
 {
     if let Some(round) = &mut node.state.round {
         round.backups.remove(&BackupWait {

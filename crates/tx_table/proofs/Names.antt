@@ -4,7 +4,7 @@ use Rattle.std.specs.declared.cmp.Ordering.{Ordering}
 use Rattle.std.specs.declared.cmp.Ordering.TheVariants.{Less, Equal, Greater}
 use Rattle.std.specs.Cmp.{IsTotalOrder}
 use Rattle.std.specs.Ordering.{match_ordering}
-use Rattle.base_words.specs.Tables.{keys_in}
+use Rattle.part_model.specs.Tables.{keys_in}
 use Rattle.ordered_set.specs.Members.{without_member}
 use Rattle.ordered_table.specs.Entries.{at, put, without}
 use Rattle.ordered_table.specs.Places.{IsAscending}

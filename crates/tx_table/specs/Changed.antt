@@ -7,5 +7,5 @@ abbrev pub changed_from : {K V : Type 0} → (K → K → Ordering) → List (K 
 changed_from cmp es k change None = es
 changed_from cmp es k change (Some v) = put cmp es k (change v)
 
-abbrev pub changed : {K V : Type 0} → (K → K → Ordering) → List (K × V) → K → (V → V) → List (K × V)
-changed cmp es k change = changed_from cmp es k change (at cmp es k)
+abbrev pub with_changed : {K V : Type 0} → (K → K → Ordering) → List (K × V) → K → (V → V) → List (K × V)
+with_changed cmp es k change = changed_from cmp es k change (at cmp es k)

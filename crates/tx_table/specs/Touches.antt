@@ -4,7 +4,7 @@ use Rattle.ignite_types.specs.Names.{key_cmp}
 use Rattle.ignite_types.specs.declared.text.Key.{Key}
 use Rattle.node_state.specs.declared.near.Read.{Read}
 use Rattle.ordered_table.specs.Entries.{at}
-use Rattle.tx_table.specs.Changed.{changed}
+use Rattle.tx_table.specs.Changed.{with_changed}
 use Rattle.tx_table.specs.declared.entry.Touched.{Touched}
 use Rattle.tx_table.specs.declared.entry.Touch.{Touch}
 use Rattle.tx_table.specs.declared.entry.Touch.TheVariants.{Fresh, Known}
@@ -27,10 +27,10 @@ abbrev pub touch_in : TouchedKeys → Key → Option Touch
 touch_in keys key = touch_from keys (at key_cmp keys key)
 
 abbrev pub with_read : TouchedKeys → Key → Read → TouchedKeys
-with_read keys key read = changed key_cmp keys key (λ (t : Touched). record { read = Some read; write = t.write })
+with_read keys key read = with_changed key_cmp keys key (λ (t : Touched). record { read = Some read; write = t.write })
 
 abbrev pub with_write : TouchedKeys → Key → Option (List ℕ) → TouchedKeys
-with_write keys key new = changed key_cmp keys key (λ (t : Touched). record { read = t.read; write = Some new })
+with_write keys key new = with_changed key_cmp keys key (λ (t : Touched). record { read = t.read; write = Some new })
 
 -- a value in front of others by key, where there is one
 abbrev pub in_front : {V : Type 0} → Key → Option V → List (Key × V) → List (Key × V)

@@ -9,7 +9,7 @@ use Rattle.node_state.specs.declared.near.Read.{Read}
 use Rattle.node_state.specs.declared.near.TxState.{TxState}
 use Rattle.node_state.specs.declared.near.TxState.TheVariants.{Idle}
 use Rattle.ordered_table.specs.Entries.{at, put}
-use Rattle.tx_table.specs.Changed.{changed}
+use Rattle.tx_table.specs.Changed.{with_changed}
 use Rattle.tx_table.specs.Touches.{TouchedKeys, touch_in, with_read, with_write}
 use Rattle.tx_table.specs.declared.entry.Touch.{Touch}
 use Rattle.tx_table.specs.declared.entry.Touch.TheVariants.{Fresh}
@@ -48,25 +48,25 @@ with_room t key = record t { touched = put key_cmp t.touched key (record { read 
 
 -- a fresh key is touched from then on
 abbrev pub after_touch : Transactions → TxId → Key → Result Touch TouchFault → Transactions
-after_touch txs tx key (Ok Fresh) = changed tx_cmp txs tx (λ (t : Transaction). with_room t key)
+after_touch txs tx key (Ok Fresh) = with_changed tx_cmp txs tx (λ (t : Transaction). with_room t key)
 after_touch txs tx key answer = txs
 
 abbrev pub read_kept : Transactions → TxId → Key → Read → Transactions
 read_kept txs tx key read =
-    changed tx_cmp txs tx (λ (t : Transaction). record t { touched = with_read t.touched key read })
+    with_changed tx_cmp txs tx (λ (t : Transaction). record t { touched = with_read t.touched key read })
 
 abbrev pub write_kept : Transactions → TxId → Key → Option (List ℕ) → Transactions
 write_kept txs tx key new =
-    changed tx_cmp txs tx (λ (t : Transaction). record t { touched = with_write t.touched key new })
+    with_changed tx_cmp txs tx (λ (t : Transaction). record t { touched = with_write t.touched key new })
 
 abbrev pub with_top : Transactions → TxId → TopVer → Transactions
-with_top txs tx top = changed tx_cmp txs tx (λ (t : Transaction). record t { top = Some top })
+with_top txs tx top = with_changed tx_cmp txs tx (λ (t : Transaction). record t { top = Some top })
 
 abbrev pub with_state : Transactions → TxId → TxState → Transactions
-with_state txs tx state = changed tx_cmp txs tx (λ (t : Transaction). record t { state = state })
+with_state txs tx state = with_changed tx_cmp txs tx (λ (t : Transaction). record t { state = state })
 
-abbrev pub state_of : Transactions → TxId → Option TxState
-state_of txs tx = option_map (λ (t : Transaction). t.state) (at tx_cmp txs tx)
+abbrev pub state_of_tx : Transactions → TxId → Option TxState
+state_of_tx txs tx = option_map (λ (t : Transaction). t.state) (at tx_cmp txs tx)
 
 abbrev pub name_at : Transactions → ℕ → Option TxId
 name_at txs place = option_map (λ (e : TxId × Transaction). e.0) (slice_get txs place)

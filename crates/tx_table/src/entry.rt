@@ -1,7 +1,7 @@
 //! A transaction, as its starter keeps it.
 
 ghost use Rattle.std.specs.Prelude.{◌≡◌, IfOk, OnErr, OnOk};
-ghost use Rattle.base_words.specs.Tables.{keys_in};
+ghost use Rattle.part_model.specs.Tables.{keys_in};
 ghost use Rattle.ignite_types.specs.Names.{key_cmp};
 ghost use Rattle.ordered_table.specs.Entries.{put};
 ghost use Rattle.ordered_table.specs.Places.{IsAscending};

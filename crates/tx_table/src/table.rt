@@ -4,9 +4,9 @@ ghost use Rattle.std.specs.Prelude.{◌≡◌, ◌↔◌, [], length, option_map
 ghost use Rattle.std.specs.Option.{option_copied};
 ghost use Rattle.ignite_types.specs.Names.{tx_cmp};
 ghost use Rattle.ordered_table.specs.Entries.{at, put, without};
-ghost use Rattle.tx_table.specs.Changed.{changed};
+ghost use Rattle.tx_table.specs.Changed.{with_changed};
 ghost use Rattle.tx_table.specs.Takes.{Takes, TakesNone};
-ghost use Rattle.tx_table.specs.Transactions.{Answers, Transaction, after_touch, name_at, new_transaction, read_kept, state_of, touch_of, with_room, with_state, with_top, write_kept};
+ghost use Rattle.tx_table.specs.Transactions.{Answers, Transaction, after_touch, name_at, new_transaction, read_kept, state_of_tx, touch_of, with_room, with_state, with_top, write_kept};
 
 use crate::entry::{Touch, TouchFault, TxEntry};
 use hash_table::HashTable;
@@ -28,7 +28,7 @@ pub struct TxTable {
 
 impl Model for TxTable {
     ghost use Rattle.std.specs.Prelude.{◌≡◌};
-    ghost use Rattle.base_words.specs.Tables.{keys_in};
+    ghost use Rattle.part_model.specs.Tables.{keys_in};
     ghost use Rattle.tx_table.specs.Transactions.{Transactions};
 
     ghost Value = { Transactions };
@@ -87,7 +87,7 @@ impl TxTable {
 
     /// How far the transaction has come.
     pub fn state(&self, tx: TxId) -> Option<TxState>
-        ensures { result ≡ state_of self.now tx }
+        ensures { result ≡ state_of_tx self.now tx }
     {
         match self.entries.get(&tx) {
             Some(entry) => Some(entry.state()),
@@ -198,7 +198,7 @@ impl TxTable {
     }
 
     fn make_room(&mut self, tx: TxId, key: Key) -> Mem<()>
-        ensures ok { OnOk result (self.new ≡ changed tx_cmp self.old tx (λ (t : Transaction). with_room t key)) }
+        ensures ok { OnOk result (self.new ≡ with_changed tx_cmp self.old tx (λ (t : Transaction). with_room t key)) }
         ensures err { OnErr result (self.new ≡ self.old) }
     {
         match self.take(tx) {

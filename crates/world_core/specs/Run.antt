@@ -1,6 +1,6 @@
 -- A run in work: its scenario, the world as it is now, and the groups so far.
 use Rattle.std.specs.Prelude.{◌≡◌, List, [], ◌∷◌, ◌++◌, Option, Some, None}
-use Rattle.base_words.specs.Directory.{event_at}
+use Rattle.part_model.specs.Directory.{event_at}
 use Rattle.ignite_types.specs.declared.journal.Event.{Event}
 use Rattle.ignite_types.specs.declared.journal.Group.{Group}
 use Rattle.ignite_types.specs.declared.journal.TopoEvent.{TopoEvent}
@@ -14,12 +14,12 @@ pub record Run : Type 0 where
   pub past : List Group
 
 -- before the first event
-abbrev pub begun : Scenario → Run
-begun scenario = record { scenario = scenario; now = opening scenario; past = [] }
+abbrev pub run_begun : Scenario → Run
+run_begun scenario = record { scenario = scenario; now = opening scenario; past = [] }
 
 -- after one more event
-abbrev pub stepped : Run → Event → Run
-stepped r e =
+abbrev pub run_after : Run → Event → Run
+run_after r e =
     record { scenario = r.scenario; now = (outcome r.now e).world; past = r.past ++ record { event = e; recs = (outcome r.now e).recs } ∷ [] }
 
 -- what want of memory leaves

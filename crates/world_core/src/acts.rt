@@ -2,7 +2,7 @@
 
 ghost use Rattle.std.specs.Prelude.{◌≡◌, [], OnOk, OnErr, IfOk};
 ghost use Rattle.ignite_types.specs.declared.journal.Event.TheVariants as event;
-ghost use Rattle.tx_model.specs.World.{calls_at, expires_at, inbox_on, outcome, part_on, reaches, sees_at, takes_at};
+ghost use Rattle.tx_model.specs.World.{act_outcome, call_outcome, expire_outcome, inbox_on, outcome, part_on, see_outcome, with_inbox_push};
 ghost use Rattle.world_core.specs.Run.{KeepsPast, next_for};
 
 use crate::world::World;
@@ -41,8 +41,8 @@ impl World {
 
     /// A session on the node at this place gives its next command.
     fn call_at(&mut self, session: u32, place: Option<usize>) -> Mem<List<Rec>>
-        ensures world { OnOk result (self.new ≡ record self.old { now = (calls_at self.old.now session place (part_on self.old.now place)).world }) }
-        ensures recs { IfOk result (λ recs. recs ≡ (calls_at self.old.now session place (part_on self.old.now place)).recs) }
+        ensures world { OnOk result (self.new ≡ record self.old { now = (call_outcome self.old.now session place (part_on self.old.now place)).world }) }
+        ensures recs { IfOk result (λ recs. recs ≡ (call_outcome self.old.now session place (part_on self.old.now place)).recs) }
         ensures err { OnErr result (KeepsPast self.old self.new) }
     {
         let Some(place) = place else {
@@ -67,8 +67,8 @@ impl World {
 
     /// The node at this place takes the oldest message of a sender.
     fn take_at(&mut self, from: NodeId, place: Option<usize>) -> Mem<List<Rec>>
-        ensures world { OnOk result (self.new ≡ record self.old { now = (takes_at self.old.now from place (part_on self.old.now place) (inbox_on self.old.now place)).world }) }
-        ensures recs { IfOk result (λ recs. recs ≡ (takes_at self.old.now from place (part_on self.old.now place) (inbox_on self.old.now place)).recs) }
+        ensures world { OnOk result (self.new ≡ record self.old { now = (act_outcome self.old.now from place (part_on self.old.now place) (inbox_on self.old.now place)).world }) }
+        ensures recs { IfOk result (λ recs. recs ≡ (act_outcome self.old.now from place (part_on self.old.now place) (inbox_on self.old.now place)).recs) }
         ensures err { OnErr result (KeepsPast self.old self.new) }
     {
         let Some(place) = place else {
@@ -105,7 +105,7 @@ impl World {
 
     /// A message goes into the inbox at this place.
     fn reach(&mut self, from: NodeId, message: Message, place: Option<usize>) -> Mem<()>
-        ensures ok { OnOk result (self.new ≡ record self.old { now = reaches self.old.now from message place (inbox_on self.old.now place) }) }
+        ensures ok { OnOk result (self.new ≡ record self.old { now = with_inbox_push self.old.now from message place (inbox_on self.old.now place) }) }
         ensures err { OnErr result (KeepsPast self.old self.new) }
     {
         let Some(place) = place else {
@@ -160,8 +160,8 @@ impl World {
 
     /// The node at this place reads the next topology event.
     fn see_at(&mut self, place: Option<usize>) -> Mem<List<Rec>>
-        ensures world { OnOk result (self.new ≡ record self.old { now = (sees_at self.old.now place (part_on self.old.now place)).world }) }
-        ensures recs { IfOk result (λ recs. recs ≡ (sees_at self.old.now place (part_on self.old.now place)).recs) }
+        ensures world { OnOk result (self.new ≡ record self.old { now = (see_outcome self.old.now place (part_on self.old.now place)).world }) }
+        ensures recs { IfOk result (λ recs. recs ≡ (see_outcome self.old.now place (part_on self.old.now place)).recs) }
         ensures err { OnErr result (KeepsPast self.old self.new) }
     {
         let Some(event) = self.next_for(place) else {
@@ -189,8 +189,8 @@ impl World {
 
     /// The deadline of a transaction was reached at the node at this place.
     fn expire_at(&mut self, tx: TxId, place: Option<usize>) -> Mem<List<Rec>>
-        ensures world { OnOk result (self.new ≡ record self.old { now = (expires_at self.old.now tx place (part_on self.old.now place)).world }) }
-        ensures recs { IfOk result (λ recs. recs ≡ (expires_at self.old.now tx place (part_on self.old.now place)).recs) }
+        ensures world { OnOk result (self.new ≡ record self.old { now = (expire_outcome self.old.now tx place (part_on self.old.now place)).world }) }
+        ensures recs { IfOk result (λ recs. recs ≡ (expire_outcome self.old.now tx place (part_on self.old.now place)).recs) }
         ensures err { OnErr result (KeepsPast self.old self.new) }
     {
         let Some(place) = place else {

@@ -2,9 +2,9 @@
 
 ghost use Rattle.std.specs.Prelude.{◌≡◌, [], ◌∷◌, Option, None, OnOk, OnErr, IfOk, if◌then◌else◌};
 ghost use Rattle.std.specs.Option.{option_copied};
-ghost use Rattle.base_words.specs.Directory.{loss_refused};
-ghost use Rattle.base_words.specs.NextMap.{is_higher, newer};
-ghost use Rattle.tx_model.specs.World.{best_from, best_without, inbox_on, inboxes_emptied, loses, lost, outlives, place_of, shut_at, unlinked};
+ghost use Rattle.part_model.specs.Directory.{refusal_of_loss};
+ghost use Rattle.part_model.specs.NextMap.{is_higher, newer_map};
+ghost use Rattle.tx_model.specs.World.{best_map_from, best_map_without, inbox_on, inboxes_emptied, loss_outcome, outlives, place_of, with_inbox_shut, without_links, world_after_loss};
 ghost use Rattle.world_core.specs.Run.{KeepsPast};
 
 use crate::parts::{Part, lose_each};
@@ -21,7 +21,7 @@ fn is_higher(a: TopVer, b: TopVer) -> bool
 
 /// The map of higher version; of two of one version the first.
 fn newer<'a>(best: Option<&'a PartMap>, next: Option<&'a PartMap>) -> Option<&'a PartMap>
-    ensures { option_copied result ≡ newer (option_copied best.entry) (option_copied next.entry) }
+    ensures { option_copied result ≡ newer_map (option_copied best.entry) (option_copied next.entry) }
 {
     match (best, next) {
         (None, _) => next,
@@ -38,7 +38,7 @@ fn newer<'a>(best: Option<&'a PartMap>, next: Option<&'a PartMap>) -> Option<&'a
 
 /// The highest map installed at a survivor of the loss of this node.
 fn best_without(parts: &[Part], id: NodeId) -> Option<&PartMap>
-    ensures { option_copied result ≡ best_from id None parts.now }
+    ensures { option_copied result ≡ best_map_from id None parts.now }
 {
     let mut best = None;
     for part in parts {
@@ -61,7 +61,7 @@ fn empty_each(inboxes: &mut Vec<Inbox>, id: NodeId)
 impl World {
     /// The inbox at this place is emptied and closed.
     fn shut_at(&mut self, place: Option<usize>)
-        ensures { self.new ≡ record self.old { now = shut_at self.old.now place (inbox_on self.old.now place) } }
+        ensures { self.new ≡ record self.old { now = with_inbox_shut self.old.now place (inbox_on self.old.now place) } }
     {
         let Some(place) = place else {
             return;
@@ -75,14 +75,14 @@ impl World {
 
     /// The links of a lost node are emptied in both directions, and its inbox is closed.
     fn unlink(&mut self, id: NodeId, place: Option<usize>)
-        ensures { self.new ≡ record self.old { now = unlinked self.old.now id place } }
+        ensures { self.new ≡ record self.old { now = without_links self.old.now id place } }
     {
         empty_each(&mut self.inboxes, id);
         self.shut_at(place);
     }
 
     fn lose(&mut self, id: NodeId)
-        ensures { self.new ≡ record self.old { now = lost self.old.now id (place_of self.old.now id) } }
+        ensures { self.new ≡ record self.old { now = world_after_loss self.old.now id (place_of self.old.now id) } }
     {
         let place = self.place_of(id);
         self.unlink(id, place);
@@ -91,7 +91,7 @@ impl World {
 
     /// Why the loss of a node is refused, if it is.
     pub(crate) fn loss_refused(&self, id: NodeId) -> Option<NoLoss>
-        ensures { result ≡ loss_refused self.now.now.directory id (best_without self.now.now id) }
+        ensures { result ≡ refusal_of_loss self.now.now.directory id (best_map_without self.now.now id) }
     {
         let best = best_without(self.parts.as_slice(), id);
         self.directory.loss_refused(id, best)
@@ -99,8 +99,8 @@ impl World {
 
     /// A node is lost, where its loss is not refused.
     pub(crate) fn loses(&mut self, id: NodeId, refused: Option<NoLoss>) -> Mem<List<Rec>>
-        ensures world { OnOk result (self.new ≡ record self.old { now = (loses self.old.now id self.old.now.directory refused).world }) }
-        ensures recs { IfOk result (λ recs. recs ≡ (loses self.old.now id self.old.now.directory refused).recs) }
+        ensures world { OnOk result (self.new ≡ record self.old { now = (loss_outcome self.old.now id self.old.now.directory refused).world }) }
+        ensures recs { IfOk result (λ recs. recs ≡ (loss_outcome self.old.now id self.old.now.directory refused).recs) }
         ensures err { OnErr result (KeepsPast self.old self.new) }
     {
         if refused.is_some() {

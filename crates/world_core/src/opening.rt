@@ -1,8 +1,8 @@
 //! The world in which a run begins.
 
 ghost use Rattle.std.specs.Prelude.{◌≡◌, [], IfOk};
-ghost use Rattle.tx_model.specs.Opening.{declared_nodes, homes_from, ids_of, opening_inboxes, opening_part, opening_parts};
-ghost use Rattle.world_core.specs.Run.{begun};
+ghost use Rattle.tx_model.specs.Opening.{declared_nodes, ids_of, opening_inboxes, opening_part, opening_parts, session_nodes_from};
+ghost use Rattle.world_core.specs.Run.{run_begun};
 
 use crate::parts::Part;
 use crate::world::World;
@@ -69,22 +69,22 @@ fn inboxes_of(alloc: Global, senders: &[NodeId], ids: &[NodeId]) -> Mem<Vec<Inbo
 }
 
 /// The node of each session, by the sessions' numbers from 1.
-fn homes_of(alloc: Global, sessions: &[Session]) -> Mem<Table<u32, NodeId>>
-    ensures { IfOk result (λ homes. homes ≡ homes_from 1 [] sessions.now) }
+fn session_nodes_of(alloc: Global, sessions: &[Session]) -> Mem<Table<u32, NodeId>>
+    ensures { IfOk result (λ session_nodes. session_nodes ≡ session_nodes_from 1 [] sessions.now) }
 {
-    let mut homes = Table::new(alloc);
+    let mut session_nodes = Table::new(alloc);
     let mut number = 1u32;
     for session in sessions {
-        homes.set(number, session.node)?;
+        session_nodes.set(number, session.node)?;
         number = number.saturating_add(1);
     }
-    Ok(homes)
+    Ok(session_nodes)
 }
 
 impl World {
     /// The opening world of a scenario.
     pub fn new(alloc: Global, scenario: &Scenario) -> Mem<World>
-        ensures { IfOk result (λ world. world ≡ begun scenario.now) }
+        ensures { IfOk result (λ world. world ≡ run_begun scenario.now) }
     {
         let ids = ids_of(alloc, scenario)?;
         let map = opening_map_of(alloc, scenario)?;
@@ -94,7 +94,7 @@ impl World {
             directory: Directory::new(alloc, scenario)?,
             parts: parts_of(alloc, scenario, &map, ids.as_slice())?,
             inboxes: inboxes_of(alloc, ids.as_slice(), ids.as_slice())?,
-            homes: homes_of(alloc, scenario.sessions.as_slice())?,
+            session_nodes: session_nodes_of(alloc, scenario.sessions.as_slice())?,
             broken: false,
             groups: List::new(alloc),
         })

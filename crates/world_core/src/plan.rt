@@ -2,7 +2,7 @@
 
 ghost use Rattle.std.specs.Prelude.{◌≡◌, [], None, Some, OnOk, OnErr, IfOk};
 ghost use Rattle.ignite_types.specs.declared.journal.Event.TheVariants as event;
-ghost use Rattle.tx_model.specs.World.{does_step, holds, joins, outcome, part_on, planned};
+ghost use Rattle.tx_model.specs.World.{join_outcome, outcome, part_on, plan_outcome_with, step_outcome, with_hold_between};
 ghost use Rattle.world_core.specs.Run.{KeepsPast};
 
 use crate::world::World;
@@ -11,8 +11,8 @@ use ignite_types::{List, Mem, Member, NoLoss, NodeId, Rec, Step, TopoEvent};
 impl World {
     /// The plan step at hand is done or refused.
     pub(crate) fn pass(&mut self, refused: Option<NoLoss>, recs: List<Rec>) -> Mem<List<Rec>>
-        ensures world { OnOk result (self.new ≡ record self.old { now = (planned self.old.now self.old.now.directory refused recs).world }) }
-        ensures recs { IfOk result (λ all. all ≡ (planned self.old.now self.old.now.directory refused recs).recs) }
+        ensures world { OnOk result (self.new ≡ record self.old { now = (plan_outcome_with self.old.now self.old.now.directory refused recs).world }) }
+        ensures recs { IfOk result (λ all. all ≡ (plan_outcome_with self.old.now self.old.now.directory refused recs).recs) }
         ensures err { OnErr result (KeepsPast self.old self.new) }
     {
         let mut all = List::with_capacity(self.alloc, recs.len() + 1)?;
@@ -27,8 +27,8 @@ impl World {
 
     /// A declared node joins.
     fn joins(&mut self, member: Member, place: Option<usize>) -> Mem<List<Rec>>
-        ensures world { OnOk result (self.new ≡ record self.old { now = (joins self.old.now member self.old.now.directory place (part_on self.old.now place)).world }) }
-        ensures recs { IfOk result (λ recs. recs ≡ (joins self.old.now member self.old.now.directory place (part_on self.old.now place)).recs) }
+        ensures world { OnOk result (self.new ≡ record self.old { now = (join_outcome self.old.now member self.old.now.directory place (part_on self.old.now place)).world }) }
+        ensures recs { IfOk result (λ recs. recs ≡ (join_outcome self.old.now member self.old.now.directory place (part_on self.old.now place)).recs) }
         ensures err { OnErr result (KeepsPast self.old self.new) }
     {
         let Some(place) = place else {
@@ -48,7 +48,7 @@ impl World {
 
     /// The link is held from now on, or goes on.
     fn holds(&mut self, from: NodeId, to: NodeId, held: bool)
-        ensures { self.new ≡ record self.old { now = holds self.old.now from to held } }
+        ensures { self.new ≡ record self.old { now = with_hold_between self.old.now from to held } }
     {
         let Some(place) = self.place_of(to) else {
             return;
@@ -62,8 +62,8 @@ impl World {
 
     /// A step of the plan is done or refused.
     fn does_step(&mut self, step: Step) -> Mem<List<Rec>>
-        ensures world { OnOk result (self.new ≡ record self.old { now = (does_step self.old.now self.old.now.directory step).world }) }
-        ensures recs { IfOk result (λ recs. recs ≡ (does_step self.old.now self.old.now.directory step).recs) }
+        ensures world { OnOk result (self.new ≡ record self.old { now = (step_outcome self.old.now self.old.now.directory step).world }) }
+        ensures recs { IfOk result (λ recs. recs ≡ (step_outcome self.old.now self.old.now.directory step).recs) }
         ensures err { OnErr result (KeepsPast self.old self.new) }
     {
         match step {

@@ -3,7 +3,7 @@
 ghost use Rattle.std.specs.Prelude.{◌≡◌, ◌++◌, map, OnOk, IfOk};
 ghost use Rattle.std.specs.Option.{option_copied};
 ghost use Rattle.ignite_types.specs.declared.journal.Event.TheVariants as event;
-ghost use Rattle.tx_model.specs.World.{enabled, home_at, ids, is_quiet, node_events, open_txs, plan_events, possible, possible_acts, possible_of, sessions, tick_events, tx_at};
+ghost use Rattle.tx_model.specs.World.{is_enabled, is_quiet, node_events, node_ids, open_txs, plan_events, possible, possible_acts, possible_of, session_node_at, sessions, tick_events, tx_of_session};
 
 use crate::showing::can_take;
 use crate::world::World;
@@ -13,7 +13,7 @@ impl World {
     fn add_answers(&self, events: &mut List<Event>) -> Mem<()>
         ensures { OnOk result (events.new ≡ events.old ++ possible_of self.now.now (map event.Answer (sessions self.now.now))) }
     {
-        for (session, _) in self.homes.as_slice() {
+        for (session, _) in self.session_nodes.as_slice() {
             let event = Event::Answer(*session);
             if self.can_be(&event) {
                 events.push(event)?;
@@ -25,7 +25,7 @@ impl World {
     fn add_calls(&self, events: &mut List<Event>) -> Mem<()>
         ensures { OnOk result (events.new ≡ events.old ++ possible_of self.now.now (map event.Call (sessions self.now.now))) }
     {
-        for (session, _) in self.homes.as_slice() {
+        for (session, _) in self.session_nodes.as_slice() {
             let event = Event::Call(*session);
             if self.can_be(&event) {
                 events.push(event)?;
@@ -35,7 +35,7 @@ impl World {
     }
 
     fn add_sends(&self, events: &mut List<Event>) -> Mem<()>
-        ensures { OnOk result (events.new ≡ events.old ++ possible_of self.now.now (map event.Send (ids self.now.now))) }
+        ensures { OnOk result (events.new ≡ events.old ++ possible_of self.now.now (map event.Send (node_ids self.now.now))) }
     {
         for part in self.parts.as_slice() {
             let event = Event::Send(part.node.state.me);
@@ -47,7 +47,7 @@ impl World {
     }
 
     fn add_sees(&self, events: &mut List<Event>) -> Mem<()>
-        ensures { OnOk result (events.new ≡ events.old ++ possible_of self.now.now (map event.See (ids self.now.now))) }
+        ensures { OnOk result (events.new ≡ events.old ++ possible_of self.now.now (map event.See (node_ids self.now.now))) }
     {
         for part in self.parts.as_slice() {
             let event = Event::See(part.node.state.me);
@@ -59,7 +59,7 @@ impl World {
     }
 
     fn add_switches(&self, events: &mut List<Event>) -> Mem<()>
-        ensures { OnOk result (events.new ≡ events.old ++ possible_of self.now.now (map event.Minor (ids self.now.now))) }
+        ensures { OnOk result (events.new ≡ events.old ++ possible_of self.now.now (map event.Minor (node_ids self.now.now))) }
     {
         for part in self.parts.as_slice() {
             let event = Event::Minor(part.node.state.me);
@@ -72,11 +72,11 @@ impl World {
 
     /// The session's transaction at its node.
     fn tx_at(&self, session: u32) -> Option<TxId>
-        ensures { result ≡ tx_at session (home_at self.now.now session) }
+        ensures { result ≡ tx_of_session session (session_node_at self.now.now session) }
     {
         match self.home_at(session) {
-            Some(node) => match node.desk(session) {
-                Some(desk) => desk.tx,
+            Some(node) => match node.session_state(session) {
+                Some(session_state) => session_state.tx,
                 None => None,
             },
             None => None,
@@ -86,7 +86,7 @@ impl World {
     fn add_expiries(&self, events: &mut List<Event>) -> Mem<()>
         ensures { OnOk result (events.new ≡ events.old ++ possible_of self.now.now (map event.Expire (open_txs self.now.now))) }
     {
-        for (session, _) in self.homes.as_slice() {
+        for (session, _) in self.session_nodes.as_slice() {
             if let Some(tx) = self.tx_at(*session) {
                 let event = Event::Expire(tx);
                 if self.can_be(&event) {
@@ -99,7 +99,7 @@ impl World {
 
     /// The messages that one node can take.
     fn add_acts_of(&self, events: &mut List<Event>, id: NodeId) -> Mem<()>
-        ensures { OnOk result (events.new ≡ events.old ++ possible_of self.now.now (map (event.Act id) (ids self.now.now))) }
+        ensures { OnOk result (events.new ≡ events.old ++ possible_of self.now.now (map (event.Act id) (node_ids self.now.now))) }
     {
         let inbox = self.inbox_of(id);
         for part in self.parts.as_slice() {
@@ -112,7 +112,7 @@ impl World {
     }
 
     fn add_acts(&self, events: &mut List<Event>) -> Mem<()>
-        ensures { OnOk result (events.new ≡ events.old ++ possible_acts self.now.now (ids self.now.now) (ids self.now.now)) }
+        ensures { OnOk result (events.new ≡ events.old ++ possible_acts self.now.now (node_ids self.now.now) (node_ids self.now.now)) }
     {
         for part in self.parts.as_slice() {
             self.add_acts_of(events, part.id())?;
@@ -165,7 +165,7 @@ impl World {
 
     /// Whether the event is possible now. The clock moves only where all is quiet.
     pub fn enabled(&self, event: &Event) -> Mem<bool>
-        ensures { IfOk result (λ yes. yes ≡ enabled self.now.now event.now) }
+        ensures { IfOk result (λ yes. yes ≡ is_enabled self.now.now event.now) }
     {
         if self.broken {
             return Ok(false);

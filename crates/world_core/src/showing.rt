@@ -3,7 +3,7 @@
 ghost use Rattle.std.specs.Prelude.{◌≡◌};
 ghost use Rattle.std.specs.Option.{option_copied};
 ghost use Rattle.ignite_types.specs.declared.journal.Event.TheVariants as event;
-ghost use Rattle.tx_model.specs.World.{all_over, can_be, can_take, inbox_on, live_place, over_in, session_over};
+ghost use Rattle.tx_model.specs.World.{all_sessions_over, can_be, can_take, inbox_on, is_session_over, is_session_over_at, live_place};
 
 use crate::parts::Part;
 use crate::world::World;
@@ -26,7 +26,7 @@ pub(crate) fn can_take(from: NodeId, inbox: Option<&Inbox>) -> bool
 
 /// Whether the session on this node is over; one on a lost node has ended.
 fn over_in(session: u32, part: &Part) -> bool
-    ensures { result ≡ over_in session part.now.node part.now.life }
+    ensures { result ≡ is_session_over_at session part.now.node part.now.life }
 {
     match part.life {
         Life::Gone => true,
@@ -121,9 +121,9 @@ impl World {
     }
 
     fn session_over(&self, session: u32) -> bool
-        ensures { result ≡ session_over self.now.now session }
+        ensures { result ≡ is_session_over self.now.now session }
     {
-        let Some(id) = self.homes.get(&session) else {
+        let Some(id) = self.session_nodes.get(&session) else {
             return true;
         };
         match self.part_on(self.place_of(*id)) {
@@ -134,9 +134,9 @@ impl World {
 
     /// Whether every session is at the end of its script, or was lost with its node.
     pub fn all_over(&self) -> bool
-        ensures { result ≡ all_over self.now.now }
+        ensures { result ≡ all_sessions_over self.now.now }
     {
-        for (session, _) in self.homes.as_slice() {
+        for (session, _) in self.session_nodes.as_slice() {
             if !self.session_over(*session) {
                 return false;
             }

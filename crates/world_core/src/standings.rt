@@ -3,14 +3,14 @@
 ghost use Rattle.std.specs.Prelude.{◌≡◌, map, None, Some, IfOk};
 ghost use Rattle.std.specs.Option.{option_copied};
 ghost use Rattle.act_rows.specs.Steps.{entry_of};
-ghost use Rattle.tx_model.specs.Outlooks.{earlier, first_older, held_from, held_link, holds_up, is_earlier, keeps_back, older_in, or_standing, outlook, queued_at, queued_in, standing_at, standing_of, standing_of_desk, unless_lost, unopened, wait_behind, wait_in, waits_by_tx, waits_for, waits_to_start};
-ghost use Rattle.tx_model.specs.World.{ids, sessions};
+ghost use Rattle.tx_model.specs.Outlooks.{earlier_tx, first_older, held_link, held_link_from, holds_up, is_earlier, is_kept_back, older_among, or_standing, outlook, standing_at, standing_before_start, standing_by_tx, standing_of, standing_of_session_state, standing_of_waiting, standing_queued_at, standing_queued_in, standing_unless_lost, standing_unopened, wait_behind, wait_in};
+ghost use Rattle.tx_model.specs.World.{node_ids, sessions};
 
 use crate::parts::{Part, is_alive};
 use crate::world::World;
 use ignite_types::{Key, List, Mem, NodeId, TopVer, TxId, Wait};
 use link_memory::Inbox;
-use near_side::desk_over;
+use near_side::session_state_over;
 use node_core::Node;
 use node_state::{Life, TxEntry, TxState};
 use node_steps::stands_in;
@@ -73,7 +73,7 @@ fn is_earlier(a: &TxId, b: &TxId) -> bool
 }
 
 fn earlier(best: Option<TxId>, tx: &TxId) -> Option<TxId>
-    ensures { result ≡ earlier best tx.now }
+    ensures { result ≡ earlier_tx best tx.now }
 {
     match best {
         Some(found) => {
@@ -103,7 +103,7 @@ fn first_older(seen: TopVer, best: Option<TxId>, txs: &[(TxId, TxEntry)]) -> Opt
 impl Part {
     /// The transaction's wait here, if this node is alive.
     fn queued(&self, tx: &TxId) -> Option<Standing>
-        ensures { result ≡ queued_at tx.now self.now }
+        ensures { result ≡ standing_queued_at tx.now self.now }
     {
         if !is_alive(self.life) {
             return None;
@@ -117,7 +117,7 @@ impl Part {
 
 /// The transaction's wait at the first of these nodes that is alive and has it in a queue.
 fn queued_in(tx: &TxId, parts: &[Part]) -> Option<Standing>
-    ensures { result ≡ queued_in tx.now parts.now }
+    ensures { result ≡ standing_queued_in tx.now parts.now }
 {
     for part in parts {
         if let Some(standing) = part.queued(tx) {
@@ -129,7 +129,7 @@ fn queued_in(tx: &TxId, parts: &[Part]) -> Option<Standing>
 
 /// The first transaction that holds the version up at one of these nodes that are alive.
 fn older_in(seen: TopVer, parts: &[Part]) -> Option<TxId>
-    ensures { result ≡ older_in seen None parts.now }
+    ensures { result ≡ older_among seen None parts.now }
 {
     let mut first = None;
     for part in parts {
@@ -142,7 +142,7 @@ fn older_in(seen: TopVer, parts: &[Part]) -> Option<TxId>
 
 /// What holds up the last version that a node has seen.
 fn unopened(seen: TopVer, parts: &[Part]) -> Option<Standing>
-    ensures { result ≡ unopened seen parts.now }
+    ensures { result ≡ standing_unopened seen parts.now }
 {
     match older_in(seen, parts) {
         Some(tx) => Some(Standing::Unopened(seen, tx)),
@@ -152,7 +152,7 @@ fn unopened(seen: TopVer, parts: &[Part]) -> Option<Standing>
 
 /// Whether the sender's link is held and has a message.
 fn keeps_back(from: NodeId, inbox: Option<&Inbox>) -> bool
-    ensures { result ≡ keeps_back from (option_copied inbox.entry) }
+    ensures { result ≡ is_kept_back from (option_copied inbox.entry) }
 {
     match inbox {
         Some(inbox) => inbox.is_held(from) && inbox.oldest(from).is_some(),
@@ -163,7 +163,7 @@ fn keeps_back(from: NodeId, inbox: Option<&Inbox>) -> bool
 impl World {
     /// The first addressee to which this sender's link is held and has a message.
     fn held_from(&self, from: NodeId) -> Option<Standing>
-        ensures { result ≡ held_from self.now.now from (ids self.now.now) }
+        ensures { result ≡ held_link_from self.now.now from (node_ids self.now.now) }
     {
         for part in self.parts.as_slice() {
             let to = part.node.state.me;
@@ -176,7 +176,7 @@ impl World {
 
     /// The least held link with a message, by sender and addressee.
     fn held_link(&self) -> Option<Standing>
-        ensures { result ≡ held_link self.now.now (ids self.now.now) }
+        ensures { result ≡ held_link self.now.now (node_ids self.now.now) }
     {
         for part in self.parts.as_slice() {
             if let Some(standing) = self.held_from(part.node.state.me) {
@@ -187,7 +187,7 @@ impl World {
     }
 
     fn waits_to_start(&self, node: &Node, entry: Option<&TxEntry>) -> Option<Standing>
-        ensures { result ≡ waits_to_start self.now.now node.now (option_copied entry.entry) }
+        ensures { result ≡ standing_before_start self.now.now node.now (option_copied entry.entry) }
     {
         match entry {
             Some(entry) => {
@@ -202,7 +202,7 @@ impl World {
     }
 
     fn waits_by_tx(&self, node: &Node, tx: &Option<TxId>) -> Option<Standing>
-        ensures { result ≡ waits_by_tx self.now.now node.now tx.now }
+        ensures { result ≡ standing_by_tx self.now.now node.now tx.now }
     {
         match tx {
             Some(tx) => match queued_in(tx, self.parts.as_slice()) {
@@ -215,7 +215,7 @@ impl World {
 
     /// What a session that has not ended waits for.
     fn waits_for(&self, node: &Node, tx: &Option<TxId>) -> Standing
-        ensures { result ≡ waits_for self.now.now node.now tx.now }
+        ensures { result ≡ standing_of_waiting self.now.now node.now tx.now }
     {
         match self.waits_by_tx(node, tx) {
             Some(standing) => standing,
@@ -227,7 +227,7 @@ impl World {
     }
 
     fn unless_lost(&self, node: &Node, life: Life, tx: &Option<TxId>) -> Standing
-        ensures { result ≡ unless_lost self.now.now node.now life tx.now }
+        ensures { result ≡ standing_unless_lost self.now.now node.now life tx.now }
     {
         match life {
             Life::Gone => Standing::Lost(node.state.me),
@@ -238,12 +238,12 @@ impl World {
     fn standing_in(&self, session: u32, part: &Part) -> Standing
         ensures { result ≡ standing_at self.now.now session (Some part.now) }
     {
-        match part.node.desk(session) {
-            Some(desk) => {
-                if desk_over(desk) {
+        match part.node.session_state(session) {
+            Some(session_state) => {
+                if session_state_over(session_state) {
                     Standing::Ended
                 } else {
-                    self.unless_lost(&part.node, part.life, &desk.tx)
+                    self.unless_lost(&part.node, part.life, &session_state.tx)
                 }
             }
             None => Standing::Ended,
@@ -253,7 +253,7 @@ impl World {
     fn standing_of(&self, session: u32) -> Standing
         ensures { result ≡ standing_of self.now.now session }
     {
-        match self.homes.get(&session) {
+        match self.session_nodes.get(&session) {
             Some(id) => match self.part_on(self.place_of(*id)) {
                 Some(part) => self.standing_in(session, part),
                 None => Standing::Ended,
@@ -265,8 +265,8 @@ impl World {
     fn standings(&self) -> Mem<List<Standing>>
         ensures { IfOk result (λ standings. standings ≡ map (standing_of self.now.now) (sessions self.now.now)) }
     {
-        let mut standings = List::with_capacity(self.alloc, self.homes.len())?;
-        for (session, _) in self.homes.as_slice() {
+        let mut standings = List::with_capacity(self.alloc, self.session_nodes.len())?;
+        for (session, _) in self.session_nodes.as_slice() {
             standings.push(self.standing_of(*session))?;
         }
         Ok(standings)

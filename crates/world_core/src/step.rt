@@ -3,7 +3,7 @@
 ghost use Rattle.std.specs.Prelude.{◌≡◌, OnOk, OnErr, IfOk};
 ghost use Rattle.ignite_types.specs.declared.journal.Event.TheVariants as event;
 ghost use Rattle.tx_model.specs.World.{outcome};
-ghost use Rattle.world_core.specs.Run.{KeepsPast, stepped};
+ghost use Rattle.world_core.specs.Run.{KeepsPast, run_after};
 
 use crate::world::World;
 use ignite_types::{Event, Group, List, Mem, NodeId, Rec};
@@ -52,7 +52,7 @@ impl World {
     /// One event happens, and its group is added to the journal. After want of memory the groups so far stay, and the
     /// world is of no further use.
     pub fn step(&mut self, event: Event) -> Mem<()>
-        ensures ok { OnOk result (self.new ≡ stepped self.old event) }
+        ensures ok { OnOk result (self.new ≡ run_after self.old event) }
         ensures err { OnErr result (KeepsPast self.old self.new) }
     {
         let recs = self.happens(&event)?;

@@ -3,7 +3,7 @@
 ghost use Rattle.std.specs.Prelude.{◌≡◌, length, position};
 ghost use Rattle.std.specs.Option.{option_copied};
 ghost use Rattle.ignite_types.specs.Names.{same_node};
-ghost use Rattle.tx_model.specs.World.{Part as PartValue, home_at, inbox_on, live_home, live_place, node_at, part_on, place_of};
+ghost use Rattle.tx_model.specs.World.{Part as PartValue, inbox_on, live_place, live_session_place, node_at, part_on, place_of, session_node_at};
 
 use crate::parts::{Part, is_alive};
 use discovery_order::Directory;
@@ -22,7 +22,7 @@ pub struct World {
     pub(crate) directory: Directory,
     pub(crate) parts: Vec<Part>,
     pub(crate) inboxes: Vec<Inbox>,
-    pub(crate) homes: Table<u32, NodeId>,
+    pub(crate) session_nodes: Table<u32, NodeId>,
     pub(crate) broken: bool,
     pub(crate) groups: List<Group>,
 }
@@ -34,7 +34,7 @@ impl Model for World {
 
     ghost view = { λ w. record {
       scenario = w.scenario;
-      now = record { directory = w.directory; parts = w.parts.items; inboxes = w.inboxes.items; homes = w.homes; broken = w.broken };
+      now = record { directory = w.directory; parts = w.parts.items; inboxes = w.inboxes.items; session_nodes = w.session_nodes; broken = w.broken };
       past = w.groups;
     } };
 }
@@ -87,9 +87,9 @@ impl World {
 
     /// The place of the session's node, where it is alive.
     pub(crate) fn live_home(&self, session: u32) -> Option<usize>
-        ensures { result ≡ live_home self.now.now session }
+        ensures { result ≡ live_session_place self.now.now session }
     {
-        match self.homes.get(&session) {
+        match self.session_nodes.get(&session) {
             Some(id) => self.live_place(*id),
             None => None,
         }
@@ -107,7 +107,7 @@ impl World {
 
     /// The session's node, where it is alive.
     pub(crate) fn home_at(&self, session: u32) -> Option<&Node>
-        ensures { option_copied result ≡ home_at self.now.now session }
+        ensures { option_copied result ≡ session_node_at self.now.now session }
     {
         match self.part_on(self.live_home(session)) {
             Some(part) => Some(&part.node),
@@ -132,7 +132,7 @@ impl World {
             directory: _,
             parts: _,
             inboxes: _,
-            homes: _,
+            session_nodes: _,
             broken: _,
             groups,
         } = self;

@@ -1,5 +1,5 @@
 use Rattle.std.proofs.Common.{drop, ◌≡◌}
-use Rattle.base_words.specs.Cycles.{with_waits}
+use Rattle.part_model.specs.Cycles.{with_waits}
 use Rattle.deadlock_search.proofs.edges.add_waits.Given as goal
 
 abbrev pub invariant-loop-wait : goal.invariant-loop-wait

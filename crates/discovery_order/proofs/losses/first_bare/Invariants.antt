@@ -1,5 +1,5 @@
 use Rattle.std.proofs.Common.{drop, ◌≡◌}
-use Rattle.base_words.specs.Directory.{first_bare}
+use Rattle.part_model.specs.Directory.{first_bare}
 use Rattle.discovery_order.proofs.losses.first_bare.Given as goal
 
 abbrev pub invariant-loop-row : goal.invariant-loop-row

@@ -1,5 +1,5 @@
 use Rattle.std.proofs.Common.{drop, ◌≡◌}
-use Rattle.base_words.specs.Directory.{one_remains}
+use Rattle.part_model.specs.Directory.{one_remains}
 use Rattle.discovery_order.proofs.losses.one_remains.Given as goal
 
 abbrev pub invariant-loop-owner : goal.invariant-loop-owner

@@ -1,5 +1,5 @@
 use Rattle.std.proofs.Common.{[], drop, ◌≡◌}
-use Rattle.base_words.specs.Directory.{node_set}
+use Rattle.part_model.specs.Directory.{node_set}
 use Rattle.discovery_order.proofs.topology.node_set.Given as goal
 
 abbrev pub invariant-loop-member : goal.invariant-loop-member

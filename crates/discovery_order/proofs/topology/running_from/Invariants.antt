@@ -1,5 +1,5 @@
 use Rattle.std.proofs.Common.{drop, ◌++◌, ◌≡◌}
-use Rattle.base_words.specs.Directory.{running_from}
+use Rattle.part_model.specs.Directory.{running_from}
 use Rattle.discovery_order.proofs.topology.running_from.Given as goal
 
 abbrev pub invariant-loop-cache : goal.invariant-loop-cache

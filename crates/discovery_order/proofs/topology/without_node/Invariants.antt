@@ -1,5 +1,5 @@
 use Rattle.std.proofs.Common.{drop, ◌++◌, ◌≡◌}
-use Rattle.base_words.specs.Directory.{without_node}
+use Rattle.part_model.specs.Directory.{without_node}
 use Rattle.discovery_order.proofs.topology.without_node.Given as goal
 
 abbrev pub invariant-loop-member : goal.invariant-loop-member

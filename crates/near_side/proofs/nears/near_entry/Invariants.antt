@@ -1,5 +1,5 @@
 use Rattle.std.proofs.Common.{drop, ◌≡◌}
-use Rattle.base_words.specs.NearEntries.{near_entry}
+use Rattle.part_model.specs.NearEntries.{near_entry}
 use Rattle.near_side.proofs.nears.near_entry.Given as goal
 
 abbrev pub invariant-loop-entry : goal.invariant-loop-entry

@@ -1,5 +1,5 @@
 use Rattle.std.proofs.Common.{drop, ◌++◌, ◌≡◌}
-use Rattle.base_words.specs.NearEntries.{others_than}
+use Rattle.part_model.specs.NearEntries.{others_than}
 use Rattle.near_side.proofs.nears.without_older.Given as goal
 
 abbrev pub invariant-loop-entry : goal.invariant-loop-entry

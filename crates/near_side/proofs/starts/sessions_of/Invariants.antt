@@ -1,5 +1,5 @@
 use Rattle.std.proofs.Common.{drop, ◌++◌, ◌≡◌}
-use Rattle.base_words.specs.Tables.{keys_in}
+use Rattle.part_model.specs.Tables.{keys_in}
 use Rattle.near_side.proofs.starts.sessions_of.Given as goal
 
 abbrev pub invariant-loop-session : goal.invariant-loop-session

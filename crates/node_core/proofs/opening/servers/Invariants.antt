@@ -1,5 +1,5 @@
 use Rattle.std.proofs.Common.{drop, ◌++◌, ◌≡◌}
-use Rattle.base_words.specs.NextMap.{servers}
+use Rattle.part_model.specs.NextMap.{servers}
 use Rattle.node_core.proofs.opening.servers.Given as goal
 
 abbrev pub invariant-loop-member : goal.invariant-loop-member

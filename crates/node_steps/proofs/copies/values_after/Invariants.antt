@@ -1,5 +1,5 @@
 use Rattle.std.proofs.Common.{drop, ◌++◌, ◌≡◌}
-use Rattle.base_words.specs.Copies.{values_after}
+use Rattle.part_model.specs.Copies.{values_after}
 use Rattle.node_steps.proofs.copies.values_after.Given as goal
 
 abbrev pub invariant-loop-key : goal.invariant-loop-key

@@ -1,5 +1,5 @@
 use Rattle.std.proofs.Common.{drop, ◌≡◌}
-use Rattle.base_words.specs.Directory.{node_set}
+use Rattle.part_model.specs.Directory.{node_set}
 use Rattle.node_steps.proofs.nodes.add_members.Given as goal
 
 abbrev pub invariant-loop-member : goal.invariant-loop-member

@@ -1,5 +1,5 @@
 use Rattle.std.proofs.Common.{drop, ◌≡◌}
-use Rattle.base_words.specs.Queues.{with_members}
+use Rattle.part_model.specs.Queues.{with_members}
 use Rattle.node_steps.proofs.nodes.add_transactions.Given as goal
 
 abbrev pub invariant-loop-tx : goal.invariant-loop-tx

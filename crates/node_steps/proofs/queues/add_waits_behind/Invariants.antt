@@ -1,5 +1,5 @@
 use Rattle.std.proofs.Common.{drop, ◌++◌, ◌≡◌}
-use Rattle.base_words.specs.Queues.{waits_behind}
+use Rattle.part_model.specs.Queues.{waits_behind}
 use Rattle.node_steps.proofs.queues.add_waits_behind.Given as goal
 
 abbrev pub invariant-loop-waiter : goal.invariant-loop-waiter

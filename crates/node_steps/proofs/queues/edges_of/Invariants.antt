@@ -1,5 +1,5 @@
 use Rattle.std.proofs.Common.{drop, ◌++◌, ◌≡◌}
-use Rattle.base_words.specs.Queues.{edges_of}
+use Rattle.part_model.specs.Queues.{edges_of}
 use Rattle.node_steps.proofs.queues.edges_of.Given as goal
 
 abbrev pub invariant-loop-key : goal.invariant-loop-key

@@ -1,5 +1,5 @@
 use Rattle.std.proofs.Common.{drop, ◌≡◌}
-use Rattle.base_words.specs.Queues.{first_blocked}
+use Rattle.part_model.specs.Queues.{first_blocked}
 use Rattle.node_steps.proofs.queues.first_blocked.Given as goal
 
 abbrev pub invariant-loop-key : goal.invariant-loop-key

@@ -1,5 +1,5 @@
 use Rattle.std.proofs.Common.{drop, ◌≡◌}
-use Rattle.base_words.specs.Tables.{without_each}
+use Rattle.part_model.specs.Tables.{without_each}
 use Rattle.node_steps.proofs.tables.remove_each.Given as goal
 
 abbrev pub invariant-loop-key : goal.invariant-loop-key

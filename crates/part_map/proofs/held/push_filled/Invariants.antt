@@ -1,5 +1,5 @@
 use Rattle.std.proofs.Common.{◌≡◌, ◌++◌, drop, filter}
-use Rattle.base_words.specs.NextMap.{is_filled}
+use Rattle.part_model.specs.NextMap.{is_filled}
 use Rattle.part_map.proofs.held.push_filled.Given as goal
 
 abbrev pub invariant-loop-node : goal.invariant-loop-node

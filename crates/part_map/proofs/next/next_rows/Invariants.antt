@@ -1,5 +1,5 @@
 use Rattle.std.proofs.Common.{◌≡◌, ◌++◌, drop}
-use Rattle.base_words.specs.NextMap.{next_rows}
+use Rattle.part_model.specs.NextMap.{next_rows}
 use Rattle.part_map.proofs.next.next_rows.Given as goal
 
 abbrev pub invariant-loop-part : goal.invariant-loop-part

@@ -1,5 +1,5 @@
 use Rattle.std.proofs.Common.{drop, filter, is_some, ◌≡◌}
-use Rattle.base_words.specs.NextMap.{single_of}
+use Rattle.part_model.specs.NextMap.{single_of}
 use Rattle.ignite_types.specs.Names.{same_top}
 use Rattle.partition_exchange.proofs.coordinating.has_single.Given as goal
 

@@ -1,6 +1,6 @@
 use Rattle.std.proofs.Common.{drop, ◌++◌, ◌≡◌}
 use Rattle.act_rows.specs.Exchange.{is_kept_commit}
-use Rattle.base_words.specs.Tables.{keys_where}
+use Rattle.part_model.specs.Tables.{keys_where}
 use Rattle.partition_exchange.proofs.installing.committed_shares.Given as goal
 
 abbrev pub invariant-loop-tx : goal.invariant-loop-tx

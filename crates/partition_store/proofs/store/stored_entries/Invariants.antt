@@ -1,5 +1,5 @@
 use Rattle.std.proofs.Common.{drop, ◌++◌, ◌≡◌}
-use Rattle.base_words.specs.Copies.{entries_of}
+use Rattle.part_model.specs.Copies.{entries_of}
 use Rattle.partition_store.proofs.store.stored_entries.Given as goal
 
 abbrev pub invariant-loop-key : goal.invariant-loop-key

@@ -1,5 +1,5 @@
 use Rattle.std.proofs.Common.{drop, ◌++◌, ◌≡◌}
-use Rattle.base_words.specs.Tables.{keys_in}
+use Rattle.part_model.specs.Tables.{keys_in}
 use Rattle.prepare_finish.proofs.finish.own_txs.Given as goal
 
 abbrev pub invariant-loop-tx : goal.invariant-loop-tx

@@ -1,6 +1,6 @@
 use Rattle.std.proofs.Common.{drop, ◌≡◌}
-use Rattle.base_words.specs.NearEntries.{readers_without}
+use Rattle.part_model.specs.NearEntries.{without_reader_of_each}
 use Rattle.prepare_finish.proofs.readers.drop_reader_of.Given as goal
 
 abbrev pub invariant-loop-key : goal.invariant-loop-key
-invariant-loop-key l = readers_without l.readers (drop l.key-index l.keys) l.node ≡ readers_without l.initial.readers l.keys l.node
+invariant-loop-key l = without_reader_of_each l.readers (drop l.key-index l.keys) l.node ≡ without_reader_of_each l.initial.readers l.keys l.node

@@ -1,5 +1,5 @@
 use Rattle.std.proofs.Common.{◌≡◌, ◌++◌, drop}
-use Rattle.base_words.specs.Script.{no_progress}
+use Rattle.part_model.specs.Script.{no_progress}
 use Rattle.report_text.specs.Sessions.{all_told}
 use Rattle.report_text.proofs.sessions.all_told.Given as goal
 

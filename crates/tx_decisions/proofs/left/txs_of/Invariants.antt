@@ -1,5 +1,5 @@
 use Rattle.std.proofs.Common.{drop, ◌++◌, ◌≡◌}
-use Rattle.base_words.specs.Tables.{keys_in}
+use Rattle.part_model.specs.Tables.{keys_in}
 use Rattle.tx_decisions.proofs.left.txs_of.Given as goal
 
 abbrev pub invariant-loop-tx : goal.invariant-loop-tx

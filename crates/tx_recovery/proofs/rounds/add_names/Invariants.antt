@@ -1,6 +1,6 @@
 use Rattle.std.proofs.Common.{drop, ◌≡◌}
 use Rattle.act_rows.specs.Recovery.{orphan_names}
-use Rattle.base_words.specs.Queues.{with_members}
+use Rattle.part_model.specs.Queues.{with_members}
 use Rattle.tx_recovery.proofs.rounds.add_names.Given as goal
 
 abbrev pub invariant-loop-orphan : goal.invariant-loop-orphan

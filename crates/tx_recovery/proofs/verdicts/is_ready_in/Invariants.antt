@@ -1,5 +1,5 @@
 use Rattle.std.proofs.Common.{drop, ◌≡◌}
-use Rattle.base_words.specs.Verdicts.{is_ready_in}
+use Rattle.part_model.specs.Verdicts.{is_ready_in}
 use Rattle.tx_recovery.proofs.verdicts.is_ready_in.Given as goal
 
 abbrev pub invariant-loop-other : goal.invariant-loop-other

@@ -1,5 +1,5 @@
 use Rattle.std.proofs.Common.{drop, ◌≡◌}
-use Rattle.base_words.specs.Verdicts.{members_ready}
+use Rattle.part_model.specs.Verdicts.{members_ready}
 use Rattle.tx_recovery.proofs.verdicts.members_ready.Given as goal
 
 abbrev pub invariant-loop-share : goal.invariant-loop-share

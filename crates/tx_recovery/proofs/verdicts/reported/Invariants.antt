@@ -1,6 +1,6 @@
 use Rattle.std.proofs.Common.{drop, ◌++◌, ◌≡◌}
-use Rattle.base_words.specs.Verdicts.{reported}
+use Rattle.part_model.specs.Verdicts.{reported_shares}
 use Rattle.tx_recovery.proofs.verdicts.reported.Given as goal
 
 abbrev pub invariant-loop-orphan : goal.invariant-loop-orphan
-invariant-loop-orphan l = l.held ++ reported (drop l.orphan-index l.orphans) ≡ reported l.orphans
+invariant-loop-orphan l = l.held ++ reported_shares (drop l.orphan-index l.orphans) ≡ reported_shares l.orphans

@@ -1,5 +1,5 @@
 use Rattle.std.proofs.Common.{drop, ◌≡◌}
-use Rattle.base_words.specs.Verdicts.{shares_named}
+use Rattle.part_model.specs.Verdicts.{shares_named}
 use Rattle.tx_recovery.proofs.verdicts.shares_named.Given as goal
 
 abbrev pub invariant-loop-orphan : goal.invariant-loop-orphan

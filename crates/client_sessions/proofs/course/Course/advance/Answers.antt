@@ -1,6 +1,6 @@
 use Rattle.std.proofs.Common.{◌≡◌, IsSome, sym, ◌∙◌}
-use Rattle.base_words.specs.Orders.{raised}
-use Rattle.base_words.specs.Script.{item_end}
+use Rattle.part_model.specs.Orders.{next_count}
+use Rattle.part_model.specs.Script.{item_end}
 use Rattle.client_sessions.specs.Courses.{progress_of}
 use Rattle.client_sessions.proofs.Rooms.{room_at}
 use Rattle.client_sessions.proofs.Walks.{advanced, all_left}
@@ -18,8 +18,8 @@ returns-clause-progress c =
     let here = c.in-Some.ensures.lookup in
     let script = c.args.script.now in
     let p = progress_of c.args.self.now in
-    let next : c.saturating_add-self.result ≡ raised p.place = c.saturating_add-self.ensures in
+    let next : c.saturating_add-self.result ≡ next_count p.place = c.saturating_add-self.ensures in
     let ends : IsSome (item_end item p.phase c.args.answer.now) = rw (← c.item_end.ensures) c.if-is_none.ensures in
-    let gone = rw (next, all_left script (raised p.place), c.keep_range.ensures.ranges) at c.pass_over.ensures.progress in
+    let gone = rw (next, all_left script (next_count p.place), c.keep_range.ensures.ranges) at c.pass_over.ensures.progress in
     let on = advanced script p c.args.answer.now item here.3.0 (rw (← here.1) ends) in
     gone ∙ sym (rw (← here.1) at on)

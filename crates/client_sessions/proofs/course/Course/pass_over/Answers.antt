@@ -1,6 +1,6 @@
 use Rattle.std.proofs.Common.{◌≡◌, Some, get_or, sym, ◌∙◌}
-use Rattle.base_words.specs.Script.{left_for}
-use Rattle.base_words.specs.declared.script.Range.{Range}
+use Rattle.part_model.specs.Script.{numbers_left_for}
+use Rattle.part_model.specs.declared.script.Range.{Range}
 use Rattle.client_sessions.specs.Courses.{progress_of}
 use Rattle.client_sessions.proofs.Rooms.{keeps_twice}
 use Rattle.client_sessions.proofs.Walks.{next_over}
@@ -14,7 +14,7 @@ loop-item-preserved c =
     let item = c.item-item.result in
     let left : Key × Range = (c.in-Some.object, c.in-Some.range) in
     let before = progress_of c.loop-item.self in
-    let some : left_for (get_or items n item) before.ranges ≡ Some left = rw (← c.item-item.is) (sym c.in-Some.ensures.value) in (
+    let some : numbers_left_for (get_or items n item) before.ranges ≡ Some left = rw (← c.item-item.is) (sym c.in-Some.ensures.value) in (
       rw (c.saturating_add-self.ensures, c.take_first.ensures.ranges) (next_over items n item before left c.loop-item-test.true some ∙ c.loop-item.invariant.0),
       keeps_twice c.args.self.now.sequences c.loop-item.self.sequences c.take_first.new.self c.loop-item.invariant.1 c.take_first.ensures.room,
     )

@@ -1,5 +1,5 @@
 use Rattle.std.proofs.Common.{drop, ◌++◌, ◌≡◌}
-use Rattle.base_words.specs.Tables.{keys_in}
+use Rattle.part_model.specs.Tables.{keys_in}
 use Rattle.entry_candidates.proofs.places.Places.keys.Given as goal
 
 abbrev pub invariant-loop-key : goal.invariant-loop-key

@@ -1,5 +1,5 @@
 use Rattle.std.proofs.Common.{List, [], ap, map, ◌∙◌}
-use Rattle.base_words.specs.Queues.{queue_in}
+use Rattle.part_model.specs.Queues.{queue_in}
 use Rattle.ignite_types.specs.Names.{key_cmp}
 use Rattle.ignite_types.specs.declared.message.Waiters.{Waiters}
 use Rattle.ignite_types.specs.declared.names.TxId.{TxId}

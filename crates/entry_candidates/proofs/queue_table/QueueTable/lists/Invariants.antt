@@ -1,5 +1,5 @@
 use Rattle.std.proofs.Common.{drop, map, ◌++◌, ◌≡◌}
-use Rattle.base_words.specs.Queues.{queue_in}
+use Rattle.part_model.specs.Queues.{queue_in}
 use Rattle.ignite_types.specs.declared.message.Waiters.{Waiters}
 use Rattle.ignite_types.specs.declared.text.Key.{Key}
 use Rattle.entry_candidates.proofs.queue_table.QueueTable.lists.Given as goal

@@ -1,6 +1,6 @@
 use Rattle.std.proofs.Common.{drop, ◌++◌, ◌≡◌}
 use Rattle.std.specs.List.{flat_map}
-use Rattle.base_words.specs.Queues.{queue_in, waits_in}
+use Rattle.part_model.specs.Queues.{queue_in, waits_in}
 use Rattle.entry_candidates.proofs.queue_table.QueueTable.waits_at.Given as goal
 
 abbrev pub invariant-loop-key : goal.invariant-loop-key

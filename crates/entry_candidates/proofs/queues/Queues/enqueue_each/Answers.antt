@@ -1,5 +1,5 @@
 use Rattle.std.proofs.Common.{ap, subst, sym, take, ◌∙◌}
-use Rattle.base_words.specs.Queues.{Queues, enqueued_in}
+use Rattle.part_model.specs.Queues.{Queues, queues_with}
 use Rattle.ignite_types.specs.Names.{key_cmp}
 use Rattle.entry_candidates.proofs.Calls.{all_taken_back, enqueued_more}
 use Rattle.entry_candidates.specs.Placing.{IsTidy}
@@ -8,7 +8,7 @@ use Rattle.entry_candidates.proofs.queues.Queues.enqueue_each.Goals as goal
 pub loop-place-preserved : goal.loop-place-preserved
 loop-place-preserved c =
     c.in-Ok.ensures.queues
-    ∙ ap (λ (q : Queues). enqueued_in q c.args.tx c.index-keys-place.result) c.loop-place.invariant
+    ∙ ap (λ (q : Queues). queues_with q c.args.tx c.index-keys-place.result) c.loop-place.invariant
     ∙ sym (enqueued_more c.args.self.now c.args.keys.now c.loop-place.place c.index-keys-place.result c.args.tx c.loop-place-test.true c.index-keys-place.is)
 
 pub returns-in-Err-clause-err : goal.returns-in-Err-clause-err

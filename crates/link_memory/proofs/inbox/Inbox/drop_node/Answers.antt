@@ -1,5 +1,5 @@
 use Rattle.std.proofs.Common.{ap, ◌∙◌, [], false}
-use Rattle.base_words.specs.Links.{Inbox, Link}
+use Rattle.part_model.specs.Links.{Inbox, Link}
 use Rattle.link_memory.proofs.LinkLaws.{node_put_there}
 use Rattle.link_memory.proofs.inbox.Inbox.drop_node.Goals as goal
 

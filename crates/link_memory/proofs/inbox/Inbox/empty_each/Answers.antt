@@ -1,5 +1,5 @@
 use Rattle.std.proofs.Common.{ap, length, ◌∙◌}
-use Rattle.base_words.specs.Links.{Inbox}
+use Rattle.part_model.specs.Links.{Inbox}
 use Rattle.link_memory.proofs.LinkLaws.{keys_emptied, one_emptied}
 use Rattle.link_memory.proofs.inbox.Inbox.empty_each.Goals as goal
 

@@ -1,5 +1,5 @@
 use Rattle.std.proofs.Common.{◌≡◌, [], drop}
-use Rattle.base_words.specs.Links.{inbox_from}
+use Rattle.part_model.specs.Links.{inbox_from}
 use Rattle.link_memory.proofs.inbox.Inbox.new.Given as goal
 
 abbrev pub invariant-loop-sender : goal.invariant-loop-sender

@@ -1,5 +1,5 @@
 use Rattle.std.proofs.Common.{sym, ap}
-use Rattle.base_words.specs.NearEntries.{NearCache}
+use Rattle.part_model.specs.NearEntries.{NearCache}
 use Rattle.near_cache.specs.Sized.{SizedNear}
 use Rattle.near_cache.proofs.NearLaws.{put_kept}
 use Rattle.near_cache.proofs.near.Near.put.Goals as goal

@@ -1,5 +1,5 @@
 use Rattle.std.proofs.Common.{◌≡◌, drop}
-use Rattle.base_words.specs.NextMap.{single_of}
+use Rattle.part_model.specs.NextMap.{single_of}
 use Rattle.part_map.proofs.claims.Claims.has.Given as goal
 
 abbrev pub invariant-loop-place : goal.invariant-loop-place

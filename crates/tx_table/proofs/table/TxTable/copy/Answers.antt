@@ -1,5 +1,5 @@
 use Rattle.std.proofs.Common.{◌≡◌, None, sym, ◌∙◌}
-use Rattle.base_words.specs.Tables.{keys_in}
+use Rattle.part_model.specs.Tables.{keys_in}
 use Rattle.ignite_types.specs.declared.names.TxId.{TxId}
 use Rattle.ignite_types.specs.declared.scenario.Mode.TheVariants.{Pessimistic}
 use Rattle.tx_table.specs.Transactions.{new_transaction}

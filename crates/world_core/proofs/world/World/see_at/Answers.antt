@@ -1,6 +1,6 @@
 use Rattle.std.proofs.Common.{◌≡◌, ◌<◌, Option, Some, ap, length, rules, slice_set, subst, sym, ◌∙◌}
-use Rattle.base_words.specs.Directory.{event_at}
-use Rattle.tx_model.specs.World.{Part, part_on, sees_at}
+use Rattle.part_model.specs.Directory.{event_at}
+use Rattle.tx_model.specs.World.{Part, part_on, see_outcome}
 use Rattle.world_core.specs.Run.{Run, next_for}
 use Rattle.world_core.specs.contracts.world.World.{the_view}
 use Rattle.world_core.proofs.ActsLaws.{sees_recs, sees_world, there_is}
@@ -28,11 +28,11 @@ pub returns-clause-world : goal.returns-clause-world
 returns-clause-world c =
     let r : Run = run c in
     let left : Run = record r { now = record r.now { parts = slice_set r.now.parts c.in-Some-place.place (record { node = c.see.new.node; life = (there_part c).life }) } } in
-    subst (λ (s : Run). left ≡ record s { now = (sees_at s.now c.args.place (part_on s.now c.args.place)).world }) c.self.view_is
+    subst (λ (s : Run). left ≡ record s { now = (see_outcome s.now c.args.place (part_on s.now c.args.place)).world }) c.self.view_is
     (sees_world r c.in-Some-place.place (there_part c) c.in-Some.event c.see.new.node c.args.place c.in-Some-place.is (there c) (next c) c.in_ok-recs.ensures.state)
 
 pub returns-clause-recs : goal.returns-clause-recs
 returns-clause-recs c =
     let r : Run = run c in
-    subst (λ (s : Run). c.in_ok-recs.recs ≡ (sees_at s.now c.args.place (part_on s.now c.args.place)).recs) c.self.view_is
+    subst (λ (s : Run). c.in_ok-recs.recs ≡ (see_outcome s.now c.args.place (part_on s.now c.args.place)).recs) c.self.view_is
     (sees_recs r c.in-Some-place.place (there_part c) c.in-Some.event c.in_ok-recs.recs c.args.place c.in-Some-place.is (there c) (next c) c.in_ok-recs.ensures.recs)

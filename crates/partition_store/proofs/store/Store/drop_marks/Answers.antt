@@ -1,6 +1,0 @@
-use Rattle.std.proofs.Common.{◌∙◌}
-use Rattle.partition_store.proofs.Marks.{marks_dropped}
-use Rattle.partition_store.proofs.store.Store.drop_marks.Goals as goal
-
-pub returns : goal.returns
-returns c = rw (← c.self.view_is) (c.retain.ensures.kept ∙ marks_dropped c.self.inside.entries c.retain.ensures.ascending)
