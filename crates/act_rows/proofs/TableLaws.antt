@@ -4,19 +4,12 @@ use Rattle.std.specs.Cmp.{IsTotalOrder}
 use Rattle.std.specs.Cmp.{then_total, on_total}
 use Rattle.std.specs.Ordering.{nat_cmp}
 use Rattle.std.proofs.lemmas.Cmp.{nat_cmp_total, nat_list_cmp_total}
+use Rattle.ignite_types.proofs.NameLaws.{key_total, tx_total}
 use Rattle.ignite_types.specs.declared.names.TxId.{TxId}
 use Rattle.ignite_types.specs.declared.text.Key.{Key}
 use Rattle.ignite_types.specs.Names.{tx_cmp, key_cmp}
 use Rattle.ordered_table.specs.Entries.{at, put, without}
 use Rattle.ordered_table.proofs.Laws as laws
-
-pub tx_total : IsTotalOrder tx_cmp
-tx_total =
-    then_total (on_total (λ (t : TxId). t.node.0) nat_cmp_total)
-    (then_total (on_total (λ (t : TxId). t.session) nat_cmp_total) (on_total (λ (t : TxId). t.number) nat_cmp_total))
-
-pub key_total : IsTotalOrder key_cmp
-key_total = then_total (on_total (λ (k : Key). k.cache) nat_cmp_total) (on_total (λ (k : Key). k.text) nat_list_cmp_total)
 
 pub tx_put_put : {V : Type 0} (es : List (TxId × V)) (k : TxId) (v w : V) → put tx_cmp (put tx_cmp es k v) k w ≡ put tx_cmp es k w
 tx_put_put es k v w = laws.put_put tx_cmp tx_total es k v w

@@ -5,6 +5,7 @@ use Rattle.std.specs.Cmp.{IsTotalOrder, then_total, on_total}
 use Rattle.std.proofs.lemmas.Cmp.{nat_cmp_total, nat_list_cmp_total}
 use Rattle.part_model.specs.Script.{Ranges, ranges_after}
 use Rattle.part_model.specs.declared.script.Range.{Range}
+use Rattle.ignite_types.proofs.NameLaws.{key_total}
 use Rattle.ignite_types.specs.Names.{key_cmp}
 use Rattle.ignite_types.specs.declared.answer.Answer.{Answer}
 use Rattle.ignite_types.specs.declared.scenario.Item.{Item}
@@ -17,9 +18,6 @@ use Rattle.ordered_table.proofs.Laws.{put_there}
 use Rattle.client_sessions.specs.Sequences.{HasRoom, HasRoomFor, KeepsRoom, Sequences, entries_present}
 use Rattle.client_sessions.proofs.Kept.{at_kept, kept_none, kept_some, there_still}
 use Rattle.ignite_types.specs.declared.scenario.Item.TheVariants as item
-
-pub key_total : IsTotalOrder key_cmp
-key_total = then_total (on_total (λ (k : Key). k.cache) nat_cmp_total) (on_total (λ (k : Key). k.text) nat_list_cmp_total)
 
 -- a put takes no place away
 pub keeps_put : (s : Sequences) (object : Key) (x : Option Range) → KeepsRoom s (put key_cmp s object x)

@@ -12,8 +12,9 @@ use Rattle.commit_history.specs.Steps as steps
 use Rattle.commit_history.specs.declared.line.Line.{Line}
 use Rattle.commit_history.specs.declared.walks.Walks.{Walks}
 use Rattle.commit_history.proofs.Frames.{access_beside}
-use Rattle.commit_history.proofs.Orders.{has_keys, keys_put, same_node_true}
+use Rattle.commit_history.proofs.Orders.{has_keys, keys_put}
 use Rattle.commit_history.proofs.Steps.{step_follows}
+use Rattle.ignite_types.proofs.NameLaws.{same_node_true}
 use Rattle.ignite_types.specs.Names.{same_node, tx_cmp}
 use Rattle.ignite_types.specs.declared.journal.Group.{Group}
 use Rattle.ignite_types.specs.declared.journal.Rec.{Rec}

@@ -7,7 +7,7 @@ use Rattle.std.proofs.lemmas.Bool.Decides.{nat_tests}
 use Rattle.std.proofs.lemmas.Cmp.{nat_cmp_total, nat_list_cmp_total}
 use Rattle.std.proofs.lemmas.Map.Lookups.{exact_unsigned}
 use Rattle.part_model.specs.Tables.{keys_in}
-use Rattle.hash_table.specs.SameKeys.{exact_nodes, exact_txs}
+use Rattle.ignite_types.proofs.NameLaws.{exact_nodes, exact_txs, node_total, same_node_itself, same_tx_itself, tx_total}
 use Rattle.ignite_types.specs.Names.{key_cmp, node_cmp, same_node, same_tx, tx_cmp}
 use Rattle.ignite_types.specs.declared.names.NodeId.{NodeId}
 use Rattle.ignite_types.specs.declared.names.TxId.{TxId}
@@ -16,34 +16,11 @@ use Rattle.ordered_set.specs.Members.{has, with_member}
 use Rattle.ordered_table.proofs.Laws as laws
 use Rattle.ordered_table.specs.Entries.{at, put}
 
-pub node_total : IsTotalOrder node_cmp
-node_total = on_total (λ (n : NodeId). n.0) nat_cmp_total
-
-pub tx_total : IsTotalOrder tx_cmp
-tx_total =
-    then_total (on_total (λ (t : TxId). t.node.0) nat_cmp_total)
-    (then_total (on_total (λ (t : TxId). t.session) nat_cmp_total) (on_total (λ (t : TxId). t.number) nat_cmp_total))
-
-pub key_total : IsTotalOrder key_cmp
-key_total = then_total (on_total (λ (k : Key). k.cache) nat_cmp_total) (on_total (λ (k : Key). k.text) nat_list_cmp_total)
-
 pub tx_put_put : {V : Type 0} (es : List (TxId × V)) (tx : TxId) (v w : V) → put tx_cmp (put tx_cmp es tx v) tx w ≡ put tx_cmp es tx w
 tx_put_put = laws.put_put tx_cmp tx_total
 
 pub node_put_put : {V : Type 0} (es : List (NodeId × V)) (node : NodeId) (v w : V) → put node_cmp (put node_cmp es node v) node w ≡ put node_cmp es node w
 node_put_put = laws.put_put node_cmp node_total
-
-pub same_tx_itself : (a : TxId) → same_tx a a ≡ true
-same_tx_itself a = grind (arith, nat_tests)
-
-pub same_tx_true : (a b : TxId) → same_tx a b ≡ true → a ≡ b
-same_tx_true a b same = exact_txs a b (grind (arith, nat_tests))
-
-pub same_node_itself : (a : NodeId) → same_node a a ≡ true
-same_node_itself a = grind (arith, nat_tests)
-
-pub same_node_true : (a b : NodeId) → same_node a b ≡ true → a ≡ b
-same_node_true a b same = exact_nodes a b (grind (arith, nat_tests))
 
 -- a transaction that is another one compares unequal
 pub tx_apart : (a b : TxId) → same_tx a b ≡ false → tx_cmp b a ≢ Equal

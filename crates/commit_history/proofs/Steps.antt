@@ -12,8 +12,9 @@ use Rattle.commit_history.specs.Steps.{near_told_at, near_told_of, session_line_
 use Rattle.commit_history.specs.declared.line.Line.{Line}
 use Rattle.commit_history.specs.declared.walks.Walks.{Walks}
 use Rattle.commit_history.proofs.Agreeing.{after_near_read, after_start, answer_agrees, answer_agrees_elsewhere, beside_agrees, call_agrees, commit_agrees, find_agrees, near_read_in, start_agrees}
-use Rattle.commit_history.proofs.Orders.{has_keys, keys_put, same_node_true, same_tx_itself, same_tx_true}
+use Rattle.commit_history.proofs.Orders.{has_keys, keys_put}
 use Rattle.commit_history.proofs.Tables.{line_put, line_put_other, near_put, near_put_other, walk_put, walk_put_other, with_near}
+use Rattle.ignite_types.proofs.NameLaws.{same_node_true, same_tx_itself, same_tx_true}
 use Rattle.ignite_types.specs.Names.{key_cmp, same_node, same_tx, tx_cmp}
 use Rattle.ignite_types.specs.declared.answer.Answer.{Answer}
 use Rattle.ignite_types.specs.declared.journal.Rec.{Rec}

@@ -6,7 +6,8 @@ use Rattle.part_model.specs.Copies.{Found}
 use Rattle.commit_history.specs.Steps.{line_or, near_told_of, session_line_of, walk_of, with_line, with_walk}
 use Rattle.commit_history.specs.declared.line.Line.{Line}
 use Rattle.commit_history.specs.declared.walks.Walks.{Walks}
-use Rattle.commit_history.proofs.Orders.{node_apart, node_total, session_apart, tx_apart, tx_total}
+use Rattle.commit_history.proofs.Orders.{node_apart, session_apart, tx_apart}
+use Rattle.ignite_types.proofs.NameLaws.{node_total, tx_total}
 use Rattle.ignite_types.specs.Names.{node_cmp, same_node, same_tx, tx_cmp}
 use Rattle.ignite_types.specs.declared.names.NodeId.{NodeId}
 use Rattle.ignite_types.specs.declared.names.TxId.{TxId}

@@ -2,14 +2,14 @@
 use Rattle.std.proofs.Common.{Bool, IsSome, List, None, Option, Some, [], add-one, ap, arith, false, get_or, is_some, length, refl, slice_get, subst, suc, sym, take, take-suc, true, ◌+◌, ◌++◌, ◌-◌, ◌<◌, ◌≤◌, ◌||◌, ◌∙◌, ◌∷◌, ◌≡◌, ◌≢◌, ℕ}
 use Rattle.std.proofs.Math.Bool.{or-true}
 use Rattle.part_model.specs.Queues.{Queues, is_queued, owner_in, queue_in, queue_without, queues_with, queues_without, with_queue_in}
-use Rattle.hash_table.specs.SameKeys.{exact_keys}
+use Rattle.ignite_types.proofs.NameLaws.{exact_keys, key_total, same_tx_itself, same_tx_true}
 use Rattle.ignite_types.specs.Names.{key_cmp, same_tx}
 use Rattle.ignite_types.specs.declared.names.TxId.{TxId}
 use Rattle.ignite_types.specs.declared.text.Key.{Key}
 use Rattle.ordered_table.specs.Entries.{at}
 use Rattle.entry_candidates.proofs.Indexing.{are_tidy, indexed_one, indexed_two, place_of_other, queue_there}
 use Rattle.entry_candidates.proofs.Named.{front_before}
-use Rattle.entry_candidates.proofs.Orders.{key_total, same_tx_apart, same_tx_itself, same_tx_true, tx_or_other}
+use Rattle.entry_candidates.proofs.Orders.{same_tx_apart, tx_or_other}
 use Rattle.entry_candidates.proofs.Standing as standing
 use Rattle.entry_candidates.proofs.Tables as tables
 use Rattle.entry_candidates.specs.Owning.{enqueued_each, front_of, is_owned_by, next_owner, taken_back, waiters_in, waits_at, without_last_in, without_waiter, without_waiter_in}

@@ -8,7 +8,7 @@ use Rattle.std.specs.declared.cmp.Ordering.{Ordering}
 use Rattle.std.specs.declared.cmp.Ordering.TheVariants.{Less, Equal, Greater}
 use Rattle.std.proofs.lemmas.Cmp.{tied_back}
 use Rattle.part_model.specs.Queues.{Queues, edges_of, is_queued, queue_in, waits_in}
-use Rattle.hash_table.specs.SameKeys.{exact_keys}
+use Rattle.ignite_types.proofs.NameLaws.{exact_keys, key_total, same_tx_itself}
 use Rattle.ignite_types.specs.Names.{key_cmp, same_tx}
 use Rattle.ignite_types.specs.declared.names.TxId.{TxId}
 use Rattle.ignite_types.specs.declared.text.Key.{Key}
@@ -17,7 +17,7 @@ use Rattle.ordered_table.proofs.Laws as laws
 use Rattle.ordered_table.specs.Entries.{at, put}
 use Rattle.ordered_table.specs.Places.{IsAscending, IsBelowAll}
 use Rattle.ordered_table.specs.declared.table.Table.{Table}
-use Rattle.entry_candidates.proofs.Orders.{key_total, same_or_apart, same_tx_apart, same_tx_itself, tx_or_other}
+use Rattle.entry_candidates.proofs.Orders.{same_or_apart, same_tx_apart, tx_or_other}
 use Rattle.entry_candidates.proofs.Reading.{each_found, flat_map_read}
 use Rattle.entry_candidates.specs.Gathering.{Marks, marked, waited_by}
 use Rattle.entry_candidates.specs.Placing.{IsIndexed, Places, place_in_queue, table_of}

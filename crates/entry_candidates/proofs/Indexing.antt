@@ -3,7 +3,7 @@ use Rattle.std.proofs.Common.{Bool, List, None, Option, Some, [], ap, inl, inr, 
 use Rattle.std.proofs.lemmas.Cmp.{tied_itself}
 use Rattle.part_model.specs.Queues.{Queues, queue_in, with_queue_in}
 use Rattle.hash_table.proofs.Ordered.{something_put}
-use Rattle.hash_table.specs.SameKeys.{exact_keys, exact_txs}
+use Rattle.ignite_types.proofs.NameLaws.{exact_keys, exact_txs, key_total, tx_total}
 use Rattle.ignite_types.specs.Names.{key_cmp, tx_cmp}
 use Rattle.ignite_types.specs.declared.names.TxId.{TxId}
 use Rattle.ignite_types.specs.declared.text.Key.{Key}
@@ -12,7 +12,7 @@ use Rattle.ordered_table.proofs.Laws as laws
 use Rattle.ordered_table.specs.Entries.{at, put, without}
 use Rattle.ordered_table.specs.Places.{IsAscending}
 use Rattle.ordered_table.specs.declared.table.Table.{Table}
-use Rattle.entry_candidates.proofs.Orders.{key_total, same_or_apart, tx_or_other, tx_total}
+use Rattle.entry_candidates.proofs.Orders.{same_or_apart, tx_or_other}
 use Rattle.entry_candidates.proofs.Tables as tables
 use Rattle.entry_candidates.specs.Placing.{IsIndexed, IsTidy, Places, place_in_queue, table_of, with_place}
 

@@ -12,7 +12,7 @@ use Rattle.part_model.specs.Queues.{Queues, is_queued, queue_in, queued_txs, wit
 use Rattle.part_model.specs.Queues as words
 use Rattle.part_model.specs.Tables.{keys_in, keys_where}
 use Rattle.hash_table.proofs.Ordered.{ascending_filter, at_below_all, same_entries}
-use Rattle.hash_table.specs.SameKeys.{exact_keys, exact_txs}
+use Rattle.ignite_types.proofs.NameLaws.{exact_keys, exact_txs, key_total, same_tx_itself, tx_total}
 use Rattle.ignite_types.specs.Names.{key_cmp, same_tx, tx_cmp}
 use Rattle.ignite_types.specs.declared.names.TxId.{TxId}
 use Rattle.ignite_types.specs.declared.text.Key.{Key}
@@ -23,7 +23,7 @@ use Rattle.ordered_table.specs.Entries.{at, put}
 use Rattle.ordered_table.specs.Places.{IsAscending, IsBelowAll}
 use Rattle.ordered_table.specs.declared.table.Table.{Table}
 use Rattle.entry_candidates.proofs.Calls.{is_placed}
-use Rattle.entry_candidates.proofs.Orders.{key_total, same_tx_apart, same_tx_itself, tx_or_other, tx_total}
+use Rattle.entry_candidates.proofs.Orders.{same_tx_apart, tx_or_other}
 use Rattle.entry_candidates.proofs.Reading.{EachFound, each_found}
 use Rattle.entry_candidates.specs.Placing.{IsIndexed, Places, place_in_queue, table_of}
 

@@ -1,7 +1,7 @@
 -- The laws of tables at the two kinds of keys, under names that a function can cite.
 use Rattle.std.proofs.Common.{Bool, IsSome, List, None, Some, [], ap, refl, sym, take, ◌+◌, ◌<◌, ◌++◌, ◌∙◌, ◌∷◌, ◌≡◌, ℕ, get_or, length}
 use Rattle.part_model.specs.Queues.{Queues, with_queue_in}
-use Rattle.hash_table.specs.SameKeys.{exact_keys, exact_txs}
+use Rattle.ignite_types.proofs.NameLaws.{exact_keys, exact_txs, key_total, tx_total}
 use Rattle.ignite_types.specs.Names.{key_cmp, tx_cmp}
 use Rattle.ignite_types.specs.declared.names.TxId.{TxId}
 use Rattle.ignite_types.specs.declared.text.Key.{Key}
@@ -10,7 +10,6 @@ use Rattle.ordered_table.proofs.Laws as laws
 use Rattle.ordered_table.specs.Entries.{at, put, without}
 use Rattle.ordered_table.specs.Places.{IsAscending}
 use Rattle.ordered_table.specs.declared.table.Table.{Table}
-use Rattle.entry_candidates.proofs.Orders.{key_total, tx_total}
 use Rattle.entry_candidates.proofs.Tables as tables
 use Rattle.entry_candidates.specs.Owning.{front_of}
 use Rattle.entry_candidates.specs.Placing.{Places, with_table}

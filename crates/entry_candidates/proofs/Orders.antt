@@ -5,18 +5,10 @@ use Rattle.std.specs.declared.cmp.Ordering.{Ordering}
 use Rattle.std.specs.declared.cmp.Ordering.TheVariants.{Less, Equal, Greater}
 use Rattle.std.proofs.lemmas.Bool.Decides.{nat_tests}
 use Rattle.std.proofs.lemmas.Cmp.{nat_cmp_total, nat_list_cmp_total}
-use Rattle.hash_table.specs.SameKeys.{exact_txs}
+use Rattle.ignite_types.proofs.NameLaws.{same_tx_itself, same_tx_true}
 use Rattle.ignite_types.specs.Names.{key_cmp, same_tx, tx_cmp}
 use Rattle.ignite_types.specs.declared.names.TxId.{TxId}
 use Rattle.ignite_types.specs.declared.text.Key.{Key}
-
-pub tx_total : IsTotalOrder tx_cmp
-tx_total =
-    then_total (on_total (λ (t : TxId). t.node.0) nat_cmp_total)
-    (then_total (on_total (λ (t : TxId). t.session) nat_cmp_total) (on_total (λ (t : TxId). t.number) nat_cmp_total))
-
-pub key_total : IsTotalOrder key_cmp
-key_total = then_total (on_total (λ (k : Key). k.cache) nat_cmp_total) (on_total (λ (k : Key). k.text) nat_list_cmp_total)
 
 module _ {K : Type 0} (cmp : K → K → Ordering) (exact : (x y : K) → cmp x y ≡ Equal → x ≡ y) where
   -- two names are the same or compare unequal
@@ -27,12 +19,6 @@ module _ {K : Type 0} (cmp : K → K → Ordering) (exact : (x y : K) → cmp x 
         | Equal ↦ λ g. inl (exact a b g)
         | Greater ↦ λ g. inr (λ h. absurd (cc))
       ] refl
-
-pub same_tx_itself : (a : TxId) → same_tx a a ≡ true
-same_tx_itself a = grind (arith, nat_tests)
-
-pub same_tx_true : (a b : TxId) → same_tx a b ≡ true → a ≡ b
-same_tx_true a b same = exact_txs a b (grind (arith, nat_tests))
 
 pub same_tx_apart : (a b : TxId) → a ≢ b → same_tx a b ≡ false
 same_tx_apart a b apart =

@@ -7,18 +7,13 @@ use Rattle.std.proofs.lemmas.Bool.Decides.{nat_tests}
 use Rattle.std.proofs.lemmas.Cmp.{nat_cmp_total, nat_list_cmp_total}
 use Rattle.act_rows.specs.Primary.{candidate_of, or_changed}
 use Rattle.part_model.specs.Queues.{Queues, blocked_by, first_blocked, other_owner, owner_in, queue_in, queues_with, with_queue_in}
+use Rattle.ignite_types.proofs.NameLaws.{key_total, same_tx_itself}
 use Rattle.ignite_types.specs.Names.{key_cmp, same_tx}
 use Rattle.ignite_types.specs.declared.answer.Fail.{Fail}
 use Rattle.ignite_types.specs.declared.names.TxId.{TxId}
 use Rattle.ignite_types.specs.declared.text.Key.{Key}
 use Rattle.ordered_table.proofs.Laws as laws
 use Rattle.ordered_table.specs.Entries.{at, put}
-
-pub key_total : IsTotalOrder key_cmp
-key_total = then_total (on_total (λ (k : Key). k.cache) nat_cmp_total) (on_total (λ (k : Key). k.text) nat_list_cmp_total)
-
-pub same_tx_itself : (a : TxId) → same_tx a a ≡ true
-same_tx_itself a = grind (arith, nat_tests)
 
 -- a look-up by a tied key
 pub at_put_tied : {V : Type 0} (es : List (Key × V)) (k q : Key) (v : V) → key_cmp q k ≡ Equal → at key_cmp (put key_cmp es k v) q ≡ Some v

@@ -1,7 +1,7 @@
 //! Keys that a hash table takes.
 
+ghost use Rattle.ignite_types.proofs.NameLaws.{exact_keys, exact_nodes, exact_tops, exact_txs};
 ghost use Rattle.std.proofs.lemmas.Map.Lookups.{CmpEqualImpliesEq, exact_unsigned};
-ghost use Rattle.hash_table.specs.SameKeys.{exact_nodes, exact_tops, exact_txs, exact_keys};
 
 use ignite_types::{Key, NodeId, TopVer, TxId};
 use std::hash::Hash;

@@ -7,6 +7,7 @@ use Rattle.frame_laws.proofs.Extending.{append_none}
 use Rattle.part_model.specs.Directory.{Directory}
 use Rattle.part_model.specs.Links.{Inbox, Link}
 use Rattle.part_model.specs.NextMap.{is_member}
+use Rattle.ignite_types.proofs.NameLaws.{same_node_true}
 use Rattle.ignite_types.specs.Names.{same_node}
 use Rattle.ignite_types.specs.declared.message.Message.{Message}
 use Rattle.ignite_types.specs.declared.names.NodeId.{NodeId}
@@ -16,7 +17,7 @@ use Rattle.ignite_types.specs.declared.scenario.Scenario.{Scenario}
 use Rattle.journal_statements.specs.LinkRecords.{is_link_held, sent_on, taken_on}
 use Rattle.journal_statements.specs.Noted.{Noted, is_lost}
 use Rattle.link_laws.specs.Carrying.{InboxCarries, LinkCarries, LinkInvariant, LinkStepInvariant, NodesApart, SayTheSame, StillNew, Stood, is_gone, is_new, joiners}
-use Rattle.link_laws.proofs.Places.{first_at, first_passes, same_node_true, set_elim, some_is}
+use Rattle.link_laws.proofs.Places.{first_at, first_passes, set_elim, some_is}
 use Rattle.node_state.specs.declared.life.Life.{Life}
 use Rattle.tx_model.specs.World.{Part, World, if_alive, is_alive, live_place, part_on, place_of}
 use Rattle.node_state.specs.declared.life.Life.TheVariants as life

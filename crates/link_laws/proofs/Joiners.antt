@@ -7,6 +7,7 @@ use Rattle.std.proofs.lemmas.List.Folds.{list_any-append}
 use Rattle.part_model.specs.Directory.{without_node}
 use Rattle.part_model.specs.NextMap.{is_member}
 use Rattle.part_model.specs.Orders.{next_count}
+use Rattle.ignite_types.proofs.NameLaws.{same_node_true}
 use Rattle.ignite_types.specs.Good.{are_distinct, joining}
 use Rattle.ignite_types.specs.Good as good
 use Rattle.ignite_types.specs.Names.{same_node}
@@ -17,7 +18,7 @@ use Rattle.journal_statements.specs.Noted.{Noted, is_lost}
 use Rattle.link_laws.specs.Carrying.{StillNew, is_new, joiners}
 use Rattle.link_laws.proofs.Frames.{all_change}
 use Rattle.link_laws.proofs.Journals.{first_rest}
-use Rattle.link_laws.proofs.Places.{same_node_true, some_is}
+use Rattle.link_laws.proofs.Places.{some_is}
 
 pub drop_next : {X : Type 0} (xs : List X) (k : ℕ) (x : X) → slice_get xs k ≡ Some x → drop k xs ≡ x ∷ drop (suc k) xs
 drop_next [] k x is = absurd (cc)

@@ -7,6 +7,7 @@ use Rattle.frame_laws.proofs.Acts as acts
 use Rattle.frame_laws.proofs.Extending.{append_twice}
 use Rattle.act_rows.specs.Acts.{act_of_send, message_act, oldest_out, with_act_begun}
 use Rattle.part_model.specs.Links.{Inbox, Link, inbox_after_pop, inbox_after_push, is_held, is_link_held_by, link_of, oldest_in, on_link}
+use Rattle.ignite_types.proofs.NameLaws.{same_node_itself, same_node_true}
 use Rattle.ignite_types.specs.Names.{same_node}
 use Rattle.ignite_types.specs.declared.journal.Rec.{Rec}
 use Rattle.ignite_types.specs.declared.message.Message.{Message}
@@ -22,7 +23,7 @@ use Rattle.link_laws.proofs.Journals.{all_calm, both_calm, calm_fits, calm_same,
 use Rattle.link_laws.proofs.LinkTables.{on_link_elim}
 use Rattle.link_laws.proofs.NodeEvents.{KeepsAt, calm_keeps, stays}
 use Rattle.link_laws.proofs.OneRecord.{more_held, no_more_lost, no_more_sent, no_more_taken, not_sent_to, not_taken_from, sending, sent_elsewhere, sent_there, taken_elsewhere, taken_there, taking}
-use Rattle.link_laws.proofs.Places.{same_node_itself, same_node_true, same_node_turned, set_elim, some_is}
+use Rattle.link_laws.proofs.Places.{same_node_turned, set_elim, some_is}
 use Rattle.link_laws.proofs.SameMessages.{same_message_itself}
 use Rattle.tx_model.specs.World.{Part, World, act_outcome, act_outcome_from, inbox_on, is_alive, live_place, outcome_of_act, part_on, place_of, send_outcome, with_delivery, with_inbox, with_inbox_push}
 

@@ -7,9 +7,10 @@ use Rattle.std.proofs.lemmas.Bool.Decides.{nat_tests}
 use Rattle.std.proofs.lemmas.Map.Lookups.{exact_unsigned}
 use Rattle.part_model.specs.Links.{Inbox, Link, inbox_shut, link_of, on_link, with_link, without_messages_of, without_messages_of_each}
 use Rattle.part_model.specs.Tables.{keys_in}
+use Rattle.ignite_types.proofs.NameLaws.{node_total, same_node_itself, same_node_true}
 use Rattle.ignite_types.specs.Names.{node_cmp, same_node}
 use Rattle.ignite_types.specs.declared.names.NodeId.{NodeId}
-use Rattle.link_laws.proofs.Places.{node_apart, node_total, same_node_itself, same_node_true, some_is}
+use Rattle.link_laws.proofs.Places.{node_apart, some_is}
 use Rattle.ordered_table.proofs.Laws as laws
 use Rattle.ordered_table.specs.Entries.{at}
 

@@ -3,6 +3,7 @@ use Rattle.std.proofs.Common.{◌≡◌, ◌++◌, ◌||◌, List, [], ◌∷◌
 use Rattle.std.specs.List.{flat_map}
 use Rattle.frame_laws.proofs.Extending.{append_none}
 use Rattle.part_model.specs.Orders.{is_node}
+use Rattle.ignite_types.proofs.NameLaws.{same_node_itself}
 use Rattle.ignite_types.specs.Names.{same_node}
 use Rattle.ignite_types.specs.declared.journal.Rec.{Rec}
 use Rattle.ignite_types.specs.declared.message.Message.{Message}
@@ -11,7 +12,6 @@ use Rattle.ignite_types.specs.declared.scenario.PlanStep.{PlanStep}
 use Rattle.journal_statements.specs.LinkRecords.{hold_after_rec, is_link_held, message_sent, message_taken, sent_on, taken_on}
 use Rattle.journal_statements.specs.Noted.{Noted, is_lost, is_lost_in, rec_of}
 use Rattle.link_laws.proofs.Journals.{hold_parts, lost_parts, one_sent, one_taken, or_none, sent_parts, taken_parts}
-use Rattle.link_laws.proofs.Places.{same_node_itself}
 use Rattle.ignite_types.specs.declared.journal.Rec.TheVariants as note
 
 pub more_sent : (from to : NodeId) (ns : List Noted) (n : Noted) (ms : List Message) → flat_map (message_sent to) (rec_of from n) ≡ ms → sent_on from to (ns ++ n ∷ []) ≡ sent_on from to ns ++ ms

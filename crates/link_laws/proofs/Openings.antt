@@ -9,6 +9,7 @@ use Rattle.std.proofs.lemmas.List.Folds.{list_any-append}
 use Rattle.part_model.specs.Directory.{node_set}
 use Rattle.part_model.specs.Links.{Inbox, Link, inbox_from, new_inbox}
 use Rattle.part_model.specs.NextMap.{is_member}
+use Rattle.ignite_types.proofs.NameLaws.{node_total, same_node_true}
 use Rattle.ignite_types.specs.Good.{are_distinct, members}
 use Rattle.ignite_types.specs.Good as good
 use Rattle.ignite_types.specs.Names.{node_cmp, same_node}
@@ -18,7 +19,7 @@ use Rattle.ignite_types.specs.declared.scenario.Scenario.{Scenario}
 use Rattle.link_laws.specs.Carrying.{InboxCarries, LinkInvariant, is_gone, is_new, joiners}
 use Rattle.link_laws.proofs.Journals.{first_rest}
 use Rattle.link_laws.proofs.Joiners.{not_true}
-use Rattle.link_laws.proofs.Places.{after_map, node_apart, node_total, same_node_true, some_is}
+use Rattle.link_laws.proofs.Places.{after_map, node_apart, some_is}
 use Rattle.ordered_set.specs.Members.{with_member}
 use Rattle.ordered_table.proofs.Laws as laws
 use Rattle.ordered_table.specs.Entries.{at, put}

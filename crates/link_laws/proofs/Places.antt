@@ -14,15 +14,6 @@ use Rattle.std.proofs.lemmas.List.Quantifiers.{position-Some}
 use Rattle.ignite_types.specs.Names.{node_cmp, same_node}
 use Rattle.ignite_types.specs.declared.names.NodeId.{NodeId}
 
-pub node_total : IsTotalOrder node_cmp
-node_total = on_total (λ (n : NodeId). n.0) nat_cmp_total
-
-pub same_node_itself : (a : NodeId) → same_node a a ≡ true
-same_node_itself a = grind (arith, nat_tests)
-
-pub same_node_true : (a b : NodeId) → same_node a b ≡ true → a ≡ b
-same_node_true a b same = let number : a.0 ≡ b.0 = grind (arith, nat_tests) in (λ i. record { 0 = number i })
-
 pub same_node_turned : (a b : NodeId) → same_node a b ≡ true → same_node b a ≡ true
 same_node_turned a b same = grind (arith, nat_tests)
 

@@ -12,6 +12,7 @@ use Rattle.part_model.specs.Directory.{Directory, directory_after_join, refusal_
 use Rattle.part_model.specs.Links.{Inbox, Link, inbox_shut, link_of, with_hold, without_messages_of}
 use Rattle.part_model.specs.NextMap.{is_member}
 use Rattle.part_model.specs.Orders.{next_count}
+use Rattle.ignite_types.proofs.NameLaws.{same_node_itself, same_node_true}
 use Rattle.ignite_types.specs.Good.{joining}
 use Rattle.ignite_types.specs.Names.{same_node}
 use Rattle.ignite_types.specs.declared.journal.NoLoss.{NoLoss}
@@ -33,7 +34,7 @@ use Rattle.link_laws.proofs.LinkEvents.{closed_same, inboxes_change}
 use Rattle.link_laws.proofs.LinkTables.{on_link_elim, or_true, shut_empty, shut_keeps}
 use Rattle.link_laws.proofs.NodeEvents.{see_calm}
 use Rattle.link_laws.proofs.OneRecord.{more_held, no_more_lost, no_more_sent, no_more_taken}
-use Rattle.link_laws.proofs.Places.{after_map, same_node_itself, same_node_true, same_node_turned, set_elim, some_is}
+use Rattle.link_laws.proofs.Places.{after_map, same_node_turned, set_elim, some_is}
 use Rattle.node_state.specs.Node.{NodeState}
 use Rattle.tx_model.specs.World.{Outcome, Part, World, best_map_without, inbox_on, inboxes_emptied, is_alive, join_outcome, loss_outcome, part_after_loss, part_on, parts_after_loss, place_of, plan_outcome_with, step_outcome, with_directory, with_inbox_shut, with_link_held, world_after_loss}
 use Rattle.ignite_types.specs.declared.journal.Rec.TheVariants as note

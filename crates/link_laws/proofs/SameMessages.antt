@@ -6,6 +6,7 @@ use Rattle.std.proofs.lemmas.Bool.Decides.{nat_tests}
 use Rattle.part_model.specs.Copies.{Found}
 use Rattle.part_model.specs.Cycles.{same_wait}
 use Rattle.part_model.specs.Orders.{same_share}
+use Rattle.ignite_types.proofs.NameLaws.{same_key_itself, same_node_itself, same_top_itself, same_tx_itself}
 use Rattle.ignite_types.specs.Names.{same_key, same_node, same_top, same_tx}
 use Rattle.ignite_types.specs.declared.answer.Fail.{Fail}
 use Rattle.ignite_types.specs.declared.message.Message.{Message}
@@ -44,21 +45,8 @@ pub maybe_itself : {A : Type 0} (same : A → A → Bool) → ((a : A) → same 
 maybe_itself same each None = refl
 maybe_itself same each (Some a) = each a
 
--- names and keys
-pub same_node_itself : (a : NodeId) → same_node a a ≡ true
-same_node_itself a = number_itself a.0
-
-pub same_top_itself : (a : TopVer) → same_top a a ≡ true
-same_top_itself a = rw (number_itself a.major, number_itself a.minor) refl
-
-pub same_tx_itself : (a : TxId) → same_tx a a ≡ true
-same_tx_itself a = rw (number_itself a.node.0, number_itself a.session, number_itself a.number) refl
-
 pub same_text_itself : (a : List ℕ) → same_text a a ≡ true
 same_text_itself a = list_itself nat_eq number_itself a
-
-pub same_key_itself : (a : Key) → same_key a a ≡ true
-same_key_itself a = rw (number_itself a.cache, same_text_itself a.text) refl
 
 pub same_cache_version_itself : (a : CacheVersion) → same_cache_version a a ≡ true
 same_cache_version_itself a = rw (same_top_itself a.top, number_itself a.order, same_node_itself a.node) refl

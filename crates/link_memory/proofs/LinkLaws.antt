@@ -6,6 +6,7 @@ use Rattle.std.specs.declared.cmp.Ordering.TheVariants.{Less, Equal, Greater}
 use Rattle.std.proofs.lemmas.Cmp.{nat_cmp_total, ranked}
 use Rattle.part_model.specs.Links.{Inbox, Link, link_of, on_link, without_messages_of, without_messages_of_each}
 use Rattle.part_model.specs.Tables.{keys_in}
+use Rattle.ignite_types.proofs.NameLaws.{exact_nodes, node_total}
 use Rattle.ignite_types.specs.declared.names.NodeId.{NodeId}
 use Rattle.ignite_types.specs.Names.{node_cmp}
 use Rattle.link_memory.specs.Taking.{TakesLink}
@@ -13,12 +14,6 @@ use Rattle.ordered_table.specs.Entries.{at, put}
 use Rattle.ordered_table.proofs.Copies as copies
 use Rattle.ordered_table.proofs.Laws as laws
 use Rattle.ordered_table.specs.Places.{IsAscending}
-
-node_total : IsTotalOrder node_cmp
-node_total = on_total (λ (n : NodeId). n.0) nat_cmp_total
-
-node_equal : (a b : NodeId) → node_cmp a b ≡ Equal → a ≡ b
-node_equal a b h = let same : a.0 ≡ b.0 = ranked a.0 b.0 Equal (sym h) in ap (λ (n : ℕ). record { 0 = n }) same
 
 pub node_put_put : {V : Type 0} (es : List (NodeId × V)) (k : NodeId) (v w : V) → put node_cmp (put node_cmp es k v) k w ≡ put node_cmp es k w
 node_put_put es k v w = laws.put_put node_cmp node_total es k v w
@@ -35,7 +30,7 @@ put_same [] k v h = absurd (cc)
 put_same (e ∷ es) k v h =
     (elim (node_cmp k e.0) as (λ r. node_cmp k e.0 ≡ r → match_ordering r None (Some e.1) (at node_cmp es k) ≡ Some v → match_ordering r ((k, v) ∷ e ∷ es) ((k, v) ∷ es) (e ∷ put node_cmp es k v) ≡ e ∷ es) [
       | Less ↦ λ g m. absurd (cc)
-      | Equal ↦ λ g m. ap (λ (x : NodeId × _). x ∷ es) (same_pair k v e (node_equal k e.0 g) (sym m))
+      | Equal ↦ λ g m. ap (λ (x : NodeId × _). x ∷ es) (same_pair k v e (exact_nodes k e.0 g) (sym m))
       | Greater ↦ λ g m. ap (λ r. e ∷ r) (put_same es k v m)
     ]) refl h
 
@@ -49,7 +44,7 @@ keys_put [] k v w h = absurd (cc)
 keys_put (e ∷ es) k v w h =
     (elim (node_cmp k e.0) as (λ r. node_cmp k e.0 ≡ r → match_ordering r None (Some e.1) (at node_cmp es k) ≡ Some w → keys_in (match_ordering r ((k, v) ∷ e ∷ es) ((k, v) ∷ es) (e ∷ put node_cmp es k v)) ≡ e.0 ∷ keys_in es) [
       | Less ↦ λ g m. absurd (cc)
-      | Equal ↦ λ g m. ap (λ n. n ∷ keys_in es) (node_equal k e.0 g)
+      | Equal ↦ λ g m. ap (λ n. n ∷ keys_in es) (exact_nodes k e.0 g)
       | Greater ↦ λ g m. ap (λ r. e.0 ∷ r) (keys_put es k v w m)
     ]) refl h
 

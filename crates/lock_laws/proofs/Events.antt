@@ -5,6 +5,7 @@ use Rattle.frame_laws.proofs.Extending.{append_none, append_twice}
 use Rattle.act_rows.specs.Acts.{Acted, act_of_send, answer_act, call_act, expire_act, may_answer, message_act, minor_act, oldest_out, see_act, send_act, with_act_begun}
 use Rattle.part_model.specs.Directory.{event_at, with_answer_given, with_event}
 use Rattle.part_model.specs.Links.{Inbox, inbox_after_pop, oldest_in}
+use Rattle.ignite_types.proofs.NameLaws.{same_node_itself, same_node_true}
 use Rattle.ignite_types.specs.Names.{same_node}
 use Rattle.ignite_types.specs.declared.journal.Rec.{Rec}
 use Rattle.ignite_types.specs.declared.journal.TopoEvent.{TopoEvent}
@@ -18,7 +19,7 @@ use Rattle.lock_laws.specs.Carrying.{LockInvariant, LockStepInvariant}
 use Rattle.lock_laws.specs.Tracking.{ActKeepsOwnersMatch, AllOwnersMatch, AreApart, GrantsFit, OwnersMatch}
 use Rattle.lock_laws.proofs.Acts.{answer_tracks, call_tracks, expire_tracks, message_tracks, minor_tracks, see_tracks, send_tracks}
 use Rattle.lock_laws.proofs.Journals.{nobodys_pass, own_pass, split_pass}
-use Rattle.lock_laws.proofs.Parts.{are_apart_set, first_passes, nobody_tells, same_node_itself, same_node_true, set_tells}
+use Rattle.lock_laws.proofs.Parts.{are_apart_set, first_passes, nobody_tells, set_tells}
 use Rattle.node_state.specs.Node.{NodeState}
 use Rattle.tx_model.specs.World as world
 use Rattle.tx_model.specs.World.{Part, World, if_alive, inbox_on, is_alive, live_place, live_session_place, outcome_of_act, part_at, part_on, place_of, plan_outcome_with, session_node, with_directory, with_inbox}

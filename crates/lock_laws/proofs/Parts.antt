@@ -7,7 +7,7 @@ use Rattle.std.proofs.lemmas.Option.{get_or_from_slice_get}
 use Rattle.frame_laws.specs.Kits.{is_lock}
 use Rattle.frame_laws.proofs.Extending.{append_none}
 use Rattle.part_model.specs.Orders.{is_node}
-use Rattle.hash_table.specs.SameKeys.{exact_nodes}
+use Rattle.ignite_types.proofs.NameLaws.{same_node_itself}
 use Rattle.ignite_types.specs.Names.{same_node}
 use Rattle.ignite_types.specs.declared.journal.Rec.{Rec}
 use Rattle.ignite_types.specs.declared.names.NodeId.{NodeId}
@@ -16,12 +16,6 @@ use Rattle.lock_laws.specs.Tracking.{AllOwnersMatch, AreApart, IsAbsentFrom, Own
 use Rattle.lock_laws.proofs.Journals.{recs_append, recs_other, recs_own}
 use Rattle.lock_laws.proofs.Tracking.{lockless_tells}
 use Rattle.tx_model.specs.World.{Part}
-
-pub same_node_itself : (a : NodeId) → same_node a a ≡ true
-same_node_itself a = grind (arith, nat_tests)
-
-pub same_node_true : (a b : NodeId) → same_node a b ≡ true → a ≡ b
-same_node_true a b same = exact_nodes a b (grind (arith, nat_tests))
 
 same_node_back : (a b : NodeId) → same_node a b ≡ false → same_node b a ≡ false
 same_node_back a b other = grind (arith, nat_tests)

@@ -5,6 +5,7 @@ use Rattle.act_rows.specs.Acts.{join_act, with_act_begun}
 use Rattle.act_rows.specs.Exchange.{after_learn, after_learn_all, without_single}
 use Rattle.part_model.specs.Directory.{Directory, next_step, refusal_of_loss, with_event}
 use Rattle.part_model.specs.Links.{Inbox}
+use Rattle.ignite_types.proofs.NameLaws.{same_node_itself}
 use Rattle.ignite_types.specs.Names.{same_node}
 use Rattle.ignite_types.specs.declared.journal.NoLoss.{NoLoss}
 use Rattle.ignite_types.specs.declared.journal.TopoEvent.{TopoEvent}
@@ -19,7 +20,7 @@ use Rattle.lock_laws.specs.Tracking.{AllOwnersMatch, OwnersMatch}
 use Rattle.lock_laws.proofs.Acts.{join_tracks}
 use Rattle.lock_laws.proofs.Events.{goes_on, nobody_goes, place_me, still, tell_at}
 use Rattle.lock_laws.proofs.Journals.{own_pass}
-use Rattle.lock_laws.proofs.Parts.{are_apart_map, are_apart_set, lockless_all, map_tells, same_node_itself, set_tells}
+use Rattle.lock_laws.proofs.Parts.{are_apart_map, are_apart_set, lockless_all, map_tells, set_tells}
 use Rattle.node_state.specs.Node.{NodeState}
 use Rattle.tx_model.specs.World as world
 use Rattle.tx_model.specs.World.{Part, World, inbox_on, is_alive, part_on, place_of, plan_outcome_with}

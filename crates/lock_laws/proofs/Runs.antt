@@ -6,7 +6,7 @@ use Rattle.std.specs.Ordering.{match_ordering, nat_cmp}
 use Rattle.std.specs.declared.cmp.Ordering.TheVariants.{Less, Equal, Greater}
 use Rattle.std.specs.Cmp.{IsTotalOrder, on_total}
 use Rattle.std.proofs.lemmas.Cmp.{nat_cmp_total, tied_itself}
-use Rattle.hash_table.specs.SameKeys.{exact_nodes}
+use Rattle.ignite_types.proofs.NameLaws.{exact_nodes, node_total, same_node_true}
 use Rattle.ignite_types.specs.Names.{node_cmp, same_node}
 use Rattle.ignite_types.specs.declared.journal.Event.{Event}
 use Rattle.ignite_types.specs.declared.journal.Group.{Group}
@@ -21,7 +21,6 @@ use Rattle.lock_laws.specs.Carrying.{LockInvariant, LockStepInvariant, OneHolder
 use Rattle.lock_laws.specs.Tracking.{AllOwnersMatch, AreApart, IsAbsentFrom}
 use Rattle.lock_laws.proofs.Events.{answer_goes, calls_goes, expires_goes, live_me, sees_goes, sends_goes, still, switches_goes, takes_goes}
 use Rattle.lock_laws.proofs.Journals.{split_pass, test_grant}
-use Rattle.lock_laws.proofs.Parts.{same_node_true}
 use Rattle.lock_laws.proofs.Plans.{memory_goes, plan_goes, tick_goes}
 use Rattle.ordered_set.specs.Members.{with_member}
 use Rattle.ordered_table.proofs.Ascending.{ascending_put}
@@ -70,9 +69,6 @@ run_passes s noted w (g ∷ gs) steps c =
     rw steps.0.same_records (split_pass noted ns (flat_map (λ (h : Group). noted_in s hs h) gs) goes.pass rest)
 
 -- The opening world: the declared nodes have different numbers.
-
-node_total : IsTotalOrder node_cmp
-node_total = on_total (λ (n : NodeId). n.0) nat_cmp_total
 
 abbrev as_table : List NodeId → List (NodeId × Unit {0})
 as_table ids = map (λ (id : NodeId). (id, tt)) ids

@@ -7,12 +7,11 @@ use Rattle.std.proofs.lemmas.Bool.{eqb-true}
 use Rattle.std.proofs.lemmas.Bool.Decides.{nat_tests}
 use Rattle.std.proofs.lemmas.Cmp.{tied_itself}
 use Rattle.frame_laws.proofs.Extending.{append_none, append_twice}
-use Rattle.frame_laws.proofs.Owners.{key_total}
 use Rattle.frame_laws.specs.Kits.{ClosedUnderSteps, is_lock}
 use Rattle.act_rows.specs.Locks.{after_grant, after_leave, after_lock_behind, after_pass_on, is_owner, owner_at, with_queued}
 use Rattle.act_rows.specs.Steps.{installed_top, with_note, with_outs}
 use Rattle.part_model.specs.Queues.{Queues, other_owner, owner_in, queue_in, queue_without, queues_with, queues_without, with_queue_in}
-use Rattle.hash_table.specs.SameKeys.{exact_keys, exact_txs}
+use Rattle.ignite_types.proofs.NameLaws.{exact_keys, key_equiv, key_total, same_key_true, same_tx_true, tx_equiv}
 use Rattle.ignite_types.specs.Names.{key_cmp, same_key, same_tx}
 use Rattle.ignite_types.specs.declared.journal.Rec.{Rec}
 use Rattle.ignite_types.specs.declared.names.NodeId.{NodeId}
@@ -28,32 +27,6 @@ use Rattle.ordered_table.specs.Places.{IsAscending}
 use Rattle.ignite_types.specs.declared.journal.Rec.TheVariants as note
 
 -- Names.
-
-key_equiv : IsEquivalence same_key
-key_equiv = and_equiv (on_equiv (λ (k : Key). k.cache) nat_eq_equiv) (on_equiv (λ (k : Key). k.text) nat_list_eq_equiv)
-
-tx_equiv : IsEquivalence same_tx
-tx_equiv =
-    and_equiv (and_equiv (on_equiv (λ (t : TxId). t.node.0) nat_eq_equiv) (on_equiv (λ (t : TxId). t.session) nat_eq_equiv))
-    (on_equiv (λ (t : TxId). t.number) nat_eq_equiv)
-
-texts_exact : (s t : List ℕ) → pointwise nat_eq s t ≡ true → s ≡ t
-texts_exact [] [] h = refl
-texts_exact [] (y ∷ t) h = absurd (cc)
-texts_exact (x ∷ s) [] h = absurd (cc)
-texts_exact (x ∷ s) (y ∷ t) h =
-    let first : x ≡ y = eqb-true x y (first_so (nat_eq x y) (pointwise nat_eq s t) h) in
-    let rest : s ≡ t = texts_exact s t (second_so (nat_eq x y) (pointwise nat_eq s t) h) in
-    cc
-
-same_key_true : (a b : Key) → same_key a b ≡ true → a ≡ b
-same_key_true a b h =
-    let cache : a.cache ≡ b.cache = eqb-true a.cache b.cache (first_so (nat_eq a.cache b.cache) (pointwise nat_eq a.text b.text) h) in
-    let text : a.text ≡ b.text = texts_exact a.text b.text (second_so (nat_eq a.cache b.cache) (pointwise nat_eq a.text b.text) h) in
-    (λ i. record { cache = cache i; text = text i })
-
-same_tx_true : (a b : TxId) → same_tx a b ≡ true → a ≡ b
-same_tx_true a b same = exact_txs a b (grind (arith, nat_tests))
 
 key_apart : (key k : Key) → key_cmp k key ≢ Equal → same_key key k ≡ false
 key_apart key k apart =

@@ -8,6 +8,7 @@ use Rattle.std.proofs.lemmas.Cmp.{nat_list_eq_equiv}
 use Rattle.std.proofs.lemmas.Map.Keys.{IsDistinct-head, IsDistinct-tail}
 use Rattle.part_model.specs.NearEntries.{near_put, near_updated}
 use Rattle.part_model.specs.Orders.{is_lower}
+use Rattle.ignite_types.proofs.NameLaws.{key_equiv, same_key_true}
 use Rattle.ignite_types.specs.Names.{same_key}
 use Rattle.ignite_types.specs.declared.names.CacheVersion.{CacheVersion}
 use Rattle.ignite_types.specs.declared.text.Key.{Key}
@@ -17,30 +18,12 @@ use Rattle.near_cache.specs.Sized.{after_hit, hit}
 use Rattle.near_cache.specs.declared.near.Kept.{Kept}
 use Rattle.near_cache.proofs.Entries as entries
 
-key_equiv : IsEquivalence same_key
-key_equiv = and_equiv (on_equiv (λ (k : Key). k.cache) nat_eq_equiv) (on_equiv (λ (k : Key). k.text) nat_list_eq_equiv)
-
-texts_exact : (s t : List ℕ) → pointwise nat_eq s t ≡ true → s ≡ t
-texts_exact [] [] h = refl
-texts_exact [] (y ∷ t) h = absurd (cc)
-texts_exact (x ∷ s) [] h = absurd (cc)
-texts_exact (x ∷ s) (y ∷ t) h =
-    let first : x ≡ y = eqb-true x y (first_so (nat_eq x y) (pointwise nat_eq s t) h) in
-    let rest : s ≡ t = texts_exact s t (second_so (nat_eq x y) (pointwise nat_eq s t) h) in
-    cc
-
 abbrev key_with : ℕ → List ℕ → Key
 key_with cache text = record { cache = cache; text = text }
 
-key_exact : (a b : Key) → same_key a b ≡ true → a ≡ b
-key_exact a b h =
-    let cache : a.cache ≡ b.cache = eqb-true a.cache b.cache (first_so (nat_eq a.cache b.cache) (pointwise nat_eq a.text b.text) h) in
-    let text : a.text ≡ b.text = texts_exact a.text b.text (second_so (nat_eq a.cache b.cache) (pointwise nat_eq a.text b.text) h) in
-    ap (λ (c : ℕ). key_with c a.text) cache ∙ ap (λ (t : List ℕ). key_with b.cache t) text
-
 -- a hit answers what is kept at the key
 pub hit_kept : (es : List (Key × Kept)) (k : Key) → hit (near_entries es) k ≡ option_map {U = List ℕ × CacheVersion} (λ (v : Kept). (v.value, v.ver)) (lookup (same_key k) es)
-hit_kept es k = entries.hit_at same_key key_equiv key_exact k es
+hit_kept es k = entries.hit_at same_key key_equiv same_key_true k es
 
 pub hit_none : (es : List (Key × Kept)) (k : Key) → lookup (same_key k) es ≡ None → hit (near_entries es) k ≡ None
 hit_none es k none = hit_kept es k ∙ rw none refl
@@ -50,10 +33,10 @@ hit_some es k v some = hit_kept es k ∙ rw some refl
 
 -- and brings it to the front
 pub hit_front : (c : LruCache Key Kept) (k : Key) → IsValid same_key c → after_hit (near_entries c.entries) k ≡ near_entries (promoted (same_key k) c.entries)
-hit_front c k valid = entries.front same_key key_equiv key_exact k c.entries valid.0
+hit_front c k valid = entries.front same_key key_equiv same_key_true k c.entries valid.0
 
 pub put_kept : (c : LruCache Key Kept) (k : Key) (v : Kept) → IsValid same_key c → near_put c.cap (near_entries c.entries) (near_entry_of (k, v)) ≡ near_entries (put_entries same_key c k v)
-put_kept c k v valid = entries.put_front same_key key_equiv key_exact k c.entries v c.cap valid.0 valid.1 valid.2
+put_kept c k v valid = entries.put_front same_key key_equiv same_key_true k c.entries v c.cap valid.0 valid.1 valid.2
 
 under : {X : Type 0} (b c : Bool) (x y : X) → b ≡ c → cond b x y ≡ cond c x y
 under b c x y h = rw h refl
@@ -61,31 +44,31 @@ under b c x y h = rw h refl
 -- an update of a key with no older entry changes nothing
 pub update_newer : (c : LruCache Key Kept) (k : Key) (new : Option (List ℕ)) (ver : CacheVersion) → IsValid same_key c → has_older c.entries k ver ≡ false → near_updated (near_entries c.entries) k new ver ≡ near_entries c.entries
 update_newer c k None ver valid older =
-    entries.removal same_key key_equiv key_exact k (λ (w : CacheVersion). is_lower w ver) c.entries valid.0
+    entries.removal same_key key_equiv same_key_true k (λ (w : CacheVersion). is_lower w ver) c.entries valid.0
     ∙ under (has_older c.entries k ver) false (near_entries (remove_entry (same_key k) c.entries)) (near_entries c.entries) older
 update_newer c k (Some value) ver valid older =
     let kept : Kept = record { value = value; ver = ver } in
-    entries.renewal same_key key_equiv key_exact k (λ (w : CacheVersion). is_lower w ver) kept c.entries valid.0
+    entries.renewal same_key key_equiv same_key_true k (λ (w : CacheVersion). is_lower w ver) kept c.entries valid.0
     ∙ under (has_older c.entries k ver) false (near_entries (set_value (same_key k) c.entries kept)) (near_entries c.entries) older
 
 pub update_removed : (c : LruCache Key Kept) (k : Key) (ver : CacheVersion) → IsValid same_key c → has_older c.entries k ver ≡ true → near_updated (near_entries c.entries) k None ver ≡ near_entries (remove_entry (same_key k) c.entries)
 update_removed c k ver valid older =
-    entries.removal same_key key_equiv key_exact k (λ (w : CacheVersion). is_lower w ver) c.entries valid.0
+    entries.removal same_key key_equiv same_key_true k (λ (w : CacheVersion). is_lower w ver) c.entries valid.0
     ∙ under (has_older c.entries k ver) true (near_entries (remove_entry (same_key k) c.entries)) (near_entries c.entries) older
 
 pub update_renewed : (c : LruCache Key Kept) (k : Key) (kept : Kept) → IsValid same_key c → has_older c.entries k kept.ver ≡ true → near_updated (near_entries c.entries) k (Some kept.value) kept.ver ≡ near_entries (set_value (same_key k) c.entries kept)
 update_renewed c k kept valid older =
-    entries.renewal same_key key_equiv key_exact k (λ (w : CacheVersion). is_lower w kept.ver) kept c.entries valid.0
+    entries.renewal same_key key_equiv same_key_true k (λ (w : CacheVersion). is_lower w kept.ver) kept c.entries valid.0
     ∙ under (has_older c.entries k kept.ver) true (near_entries (set_value (same_key k) c.entries kept)) (near_entries c.entries) older
 
 -- no value is renewed at a key that is missing
 pub set_none : (es : List (Key × Kept)) (k : Key) (v : Kept) → lookup (same_key k) es ≡ None → set_value (same_key k) es v ≡ es
-set_none es k v none = entries.renew_none same_key key_equiv key_exact k es v none
+set_none es k v none = entries.renew_none same_key key_equiv same_key_true k es v none
 
 -- a copy grows by the entry in front of it
 pub copied_more : (before : List (Key × Kept)) (e : Key × Kept) (es : List (Key × Kept)) (size : ℕ) → IsValid same_key (lru_cache (before ++ e ∷ es) size) → put_entries same_key (lru_cache es size) e.0 e.1 ≡ e ∷ es
 copied_more [] e es size valid =
-    entries.put_new same_key key_equiv key_exact e.0 es e.1 size (IsDistinct-head same_key e.0 (keys_of es) valid.0) (omega (arith, valid.1))
+    entries.put_new same_key key_equiv same_key_true e.0 es e.1 size (IsDistinct-head same_key e.0 (keys_of es) valid.0) (omega (arith, valid.1))
 copied_more (x ∷ before) e es size valid =
     copied_more before e es size (IsDistinct-tail same_key x.0 (keys_of (before ++ e ∷ es)) valid.0, omega (arith, valid.1), valid.2)
 

@@ -8,6 +8,7 @@ use Rattle.std.specs.declared.cmp.Ordering.TheVariants.{Less, Equal, Greater}
 use Rattle.std.proofs.lemmas.Cmp.{nat_cmp_total, nat_list_cmp_total, tied_itself}
 use Rattle.part_model.specs.NearEntries.{Readers, with_reader, without_reader, without_reader_of, without_reader_of_each}
 use Rattle.part_model.specs.Tables.{keys_in}
+use Rattle.ignite_types.proofs.NameLaws.{exact_keys, key_total}
 use Rattle.ignite_types.specs.Names.{key_cmp, node_cmp}
 use Rattle.ignite_types.specs.declared.names.NodeId.{NodeId}
 use Rattle.ignite_types.specs.declared.text.Key.{Key}
@@ -15,10 +16,6 @@ use Rattle.ordered_set.specs.Members.{with_member, without_member}
 use Rattle.ordered_table.specs.Entries.{at, put}
 use Rattle.ordered_table.specs.Places.{IsAscending, IsBelowAll}
 use Rattle.ordered_table.proofs.Laws as laws
-use Rattle.hash_table.specs.SameKeys.{exact_keys}
-
-pub key_total : IsTotalOrder key_cmp
-key_total = then_total (on_total (λ (k : Key). k.cache) nat_cmp_total) (on_total (λ (k : Key). k.text) nat_list_cmp_total)
 
 -- each of the keys is greater
 abbrev AllAbove : {K : Type 0} → (K → K → Ordering) → K → List K → Type 0

@@ -8,6 +8,7 @@ use Rattle.std.specs.Ordering.{ordering_reverse}
 use Rattle.std.proofs.lemmas.Cmp.{tied_itself}
 use Rattle.part_model.specs.Copies.{Copy, is_tombstone, without_tombstones}
 use Rattle.part_model.specs.Tables.{keys_where, without_each}
+use Rattle.ignite_types.proofs.NameLaws.{key_total}
 use Rattle.ignite_types.specs.Names.{key_cmp}
 use Rattle.ignite_types.specs.declared.text.Key.{Key}
 use Rattle.ordered_table.specs.Entries.{without}
@@ -42,8 +43,5 @@ module _ {K V : Type 0} (cmp : K → K → Ordering) where
           | false ↦ ap (λ r. e ∷ r) (without_passing es ascending.1) ∙ sym (first_stays e es (keys_where test es) (above_first e.0 es ascending.0))
         ]
 
-keys_ordered : IsTotalOrder key_cmp
-keys_ordered = then_total (on_total (λ (k : Key). k.cache) nat_cmp_total) (on_total (λ (k : Key). k.text) nat_list_cmp_total)
-
 pub tombstones_dropped : (copy : Copy) → IsAscending key_cmp copy → filter (λ e. not (is_tombstone e)) copy ≡ without_tombstones copy
-tombstones_dropped copy ascending = without_passing key_cmp keys_ordered is_tombstone copy ascending
+tombstones_dropped copy ascending = without_passing key_cmp key_total is_tombstone copy ascending

@@ -5,6 +5,7 @@ use Rattle.std.specs.declared.cmp.Ordering.{Ordering}
 use Rattle.std.specs.Cmp.{IsTotalOrder, then_total, on_total}
 use Rattle.std.specs.Ordering.{ordering_reverse}
 use Rattle.std.proofs.lemmas.Cmp.{nat_cmp_total, nat_list_cmp_total, tied_itself}
+use Rattle.ignite_types.proofs.NameLaws.{key_total}
 use Rattle.ignite_types.specs.Names.{key_cmp, tx_cmp}
 use Rattle.ignite_types.specs.declared.names.TxId.{TxId}
 use Rattle.ignite_types.specs.declared.text.Key.{Key}
@@ -12,14 +13,6 @@ use Rattle.ordered_table.specs.Entries.{at, put}
 use Rattle.ordered_table.specs.Places.{IsBelowAll, IsAscending}
 use Rattle.ordered_table.proofs.Copies as copies
 use Rattle.tx_table.specs.declared.entry.Touched.{Touched}
-
-pub tx_total : IsTotalOrder tx_cmp
-tx_total =
-    then_total (on_total (λ (t : TxId). t.node.0) nat_cmp_total)
-    (then_total (on_total (λ (t : TxId). t.session) nat_cmp_total) (on_total (λ (t : TxId). t.number) nat_cmp_total))
-
-key_total : IsTotalOrder key_cmp
-key_total = then_total (on_total (λ (k : Key). k.cache) nat_cmp_total) (on_total (λ (k : Key). k.text) nat_list_cmp_total)
 
 module _ {K V : Type 0} (cmp : K → K → Ordering) (o : IsTotalOrder cmp) where
   greater_at : (x : K) (es : List (K × V)) (i : ℕ) (d : K × V) → IsBelowAll cmp x es → i < length es → cmp (get_or es i d).0 x ≡ Greater

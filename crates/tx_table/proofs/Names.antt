@@ -10,13 +10,13 @@ use Rattle.ordered_table.specs.Entries.{at, put, without}
 use Rattle.ordered_table.specs.Places.{IsAscending}
 use Rattle.ordered_table.proofs.Laws as laws
 use Rattle.ordered_table.proofs.Laws.{without_put}
+use Rattle.ignite_types.proofs.NameLaws.{exact_txs, tx_total}
 use Rattle.ignite_types.specs.Names.{tx_cmp}
 use Rattle.ignite_types.specs.declared.names.TxId.{TxId}
 use Rattle.tx_table.specs.Takes.{Takes}
 use Rattle.tx_table.specs.Transactions.{Transaction, Transactions}
 use Rattle.ordered_table.proofs.Copies as copies
-use Rattle.tx_table.proofs.Copies.{at_place, tx_total}
-use Rattle.hash_table.specs.SameKeys.{exact_txs}
+use Rattle.tx_table.proofs.Copies.{at_place}
 
 module _ {K : Type 0} (cmp : K → K → Ordering) where
   -- what an edit makes of the keys

@@ -1,7 +1,7 @@
+use Rattle.ignite_types.proofs.NameLaws.{key_total}
 use Rattle.ignite_types.specs.Names.{key_cmp}
 use Rattle.ordered_table.specs.Places.{IsAscending}
 use Rattle.ordered_table.proofs.Copies as copies
-use Rattle.commit_history.proofs.Orders.{key_total}
 use Rattle.commit_history.proofs.copies.table_copied.Goals as goal
 
 pub loop-key-preserved : goal.loop-key-preserved

@@ -1,8 +1,8 @@
 use Rattle.std.proofs.Common.{[], get_or, ◌∙◌}
 use Rattle.std.proofs.lemmas.List.{get_or_default}
+use Rattle.ignite_types.proofs.NameLaws.{tx_total}
 use Rattle.ignite_types.specs.Names.{tx_cmp}
 use Rattle.ignite_types.specs.declared.names.TxId.{TxId}
-use Rattle.entry_candidates.proofs.Orders.{tx_total}
 use Rattle.entry_candidates.proofs.Reading.{read_copied}
 use Rattle.entry_candidates.proofs.places.Places.copy.Goals as goal
 

@@ -1,6 +1,6 @@
 use Rattle.std.proofs.Common.{[], ◌∙◌}
+use Rattle.ignite_types.proofs.NameLaws.{key_total}
 use Rattle.ignite_types.specs.Names.{key_cmp}
-use Rattle.entry_candidates.proofs.Orders.{key_total}
 use Rattle.entry_candidates.proofs.Reading.{read_copied}
 use Rattle.entry_candidates.proofs.queue_table.QueueTable.copy.Goals as goal
 

@@ -1,10 +1,10 @@
 use Rattle.std.proofs.Common.{List, [], ap, map, ◌∙◌}
 use Rattle.part_model.specs.Queues.{queue_in}
+use Rattle.ignite_types.proofs.NameLaws.{key_total}
 use Rattle.ignite_types.specs.Names.{key_cmp}
 use Rattle.ignite_types.specs.declared.message.Waiters.{Waiters}
 use Rattle.ignite_types.specs.declared.names.TxId.{TxId}
 use Rattle.ignite_types.specs.declared.text.Key.{Key}
-use Rattle.entry_candidates.proofs.Orders.{key_total}
 use Rattle.entry_candidates.proofs.Reading.{all_read, each_found, map_read}
 use Rattle.entry_candidates.proofs.queue_table.QueueTable.lists.Goals as goal
 

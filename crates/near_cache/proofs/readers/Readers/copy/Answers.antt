@@ -1,7 +1,8 @@
 use Rattle.std.proofs.Common.{sym, ◌∙◌}
+use Rattle.ignite_types.proofs.NameLaws.{key_total}
 use Rattle.ignite_types.specs.Names.{key_cmp}
 use Rattle.hash_table.proofs.Least.{listed_there}
-use Rattle.near_cache.proofs.ReaderLaws.{key_total, readers_copied}
+use Rattle.near_cache.proofs.ReaderLaws.{readers_copied}
 use Rattle.near_cache.proofs.readers.Readers.copy.Goals as goal
 
 pub unreachable-requires : goal.unreachable-requires

@@ -1,7 +1,7 @@
 use Rattle.std.proofs.Common.{◌≡◌, None, IsSome, sym, ◌∙◌}
+use Rattle.ignite_types.proofs.NameLaws.{tx_total}
 use Rattle.ignite_types.specs.Names.{tx_cmp}
 use Rattle.ordered_table.specs.Entries.{at}
-use Rattle.tx_table.proofs.Copies.{tx_total}
 use Rattle.tx_table.proofs.Names.{none_there, put_in_vain, put_tied, tx_put_there}
 use Rattle.tx_table.proofs.table.TxTable.put.Goals as goal
 
