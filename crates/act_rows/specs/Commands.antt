@@ -208,3 +208,8 @@ call_at s session = option_and_then command_to_give (session_state_of s session)
 -- the session is at its end: no command is pending and none is left
 abbrev pub is_session_state_over : SessionState → Bool
 is_session_state_over d = is_none d.pending && is_none (command_to_give d)
+
+-- a session that is not here has ended
+abbrev pub is_over_or_absent : Option SessionState → Bool
+is_over_or_absent None = true
+is_over_or_absent (Some d) = is_session_state_over d

@@ -7,6 +7,7 @@ pub mod Decisions
 pub mod Exchange
 pub mod Filling
 pub mod Locks
+pub mod NewNodes
 pub mod Primary
 pub mod Recovery
 pub mod Searches

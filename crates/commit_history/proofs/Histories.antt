@@ -2,12 +2,13 @@
 use Rattle.std.proofs.Common.{◌≡◌, ◌==◌, ◌&&◌, List, [], ◌∷◌, Option, Some, None, Bool, true, false, if◌then◌else◌, is_some, map, ℕ, refl, ap, sym, subst, ◌∙◌, arith}
 use Rattle.std.specs.Ordering.{nat_cmp}
 use Rattle.std.proofs.lemmas.Bool.Decides.{nat_tests}
+use Rattle.tx_model.specs.Opening.{session_nodes_from}
 use Rattle.part_model.specs.Copies.{Found}
 use Rattle.part_model.specs.Tables.{keys_in}
 use Rattle.commit_history.specs.Firsts.{Seen, first_if, firsts}
 use Rattle.commit_history.specs.Following.{Agrees, Follows, assembled}
 use Rattle.commit_history.specs.Lines.{new_line, walk_at_line}
-use Rattle.commit_history.specs.Steps.{entry_of_home, entry_of_line_if, entry_of_walks, nodes_from, opening_walks, session_line_of, walk_of, walks_after_groups}
+use Rattle.commit_history.specs.Steps.{entry_of_home, entry_of_line_if, entry_of_walks, opening_walks, session_line_of, walk_of, walks_after_groups}
 use Rattle.commit_history.specs.Steps as steps
 use Rattle.commit_history.specs.declared.line.Line.{Line}
 use Rattle.commit_history.specs.declared.walks.Walks.{Walks}
@@ -26,8 +27,7 @@ use Rattle.ignite_types.specs.declared.text.Key.{Key}
 use Rattle.ordered_set.specs.Members.{with_member}
 use Rattle.ordered_table.specs.Entries.{at, put}
 use Rattle.tx_model.specs.History as history
-use Rattle.tx_model.specs.History.{commits_from, commits_next, committed_in, entry_from, footprint, fresh_walk, records, taker_of, walk_after_done_access, walk_with_open_call}
-use Rattle.tx_model.specs.declared.walk.Walk.{Walk}
+use Rattle.tx_model.specs.History.{Walk, commits_from, commits_next, committed_in, entry_from, footprint, fresh_walk, records, taker_of, walk_after_done_access, walk_with_open_call}
 
 recs_follow : (m : Walks) (tx : TxId) (w : Walk) (to : Option NodeId) (rs : List Rec) → Follows m tx w → Follows (steps.walks_after_records m to rs) tx (history.walk_after_records tx to w rs)
 recs_follow m tx w to [] f = f

@@ -1,5 +1,6 @@
 -- What it means that a transaction's own walk is found in the one walk for all.
 use Rattle.std.specs.Prelude.{◌≡◌, ◌<◌, ◌≤◌, None, Some, ◌^◌, ◌-◌, ℕ}
+use Rattle.tx_model.specs.History.{Walk}
 use Rattle.part_model.specs.Copies.{Found}
 use Rattle.part_model.specs.Tables.{keys_in}
 use Rattle.commit_history.specs.Steps.{near_told_of, session_line_of, walk_of}
@@ -8,7 +9,6 @@ use Rattle.commit_history.specs.declared.walks.Walks.{Walks}
 use Rattle.ignite_types.specs.declared.list.List.{List}
 use Rattle.ignite_types.specs.declared.names.TxId.{TxId}
 use Rattle.ignite_types.specs.declared.text.Key.{Key}
-use Rattle.tx_model.specs.declared.walk.Walk.{Walk}
 
 -- a walk put together: the session's part, the transaction's, what its node's near cache was told, who is over, and a near_read
 abbrev pub assembled : Line → Walk → List (Key × Found) → List TxId → Found → Walk

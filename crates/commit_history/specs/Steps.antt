@@ -21,9 +21,9 @@ use Rattle.ignite_types.specs.declared.scenario.Command.{Command}
 use Rattle.ignite_types.specs.declared.scenario.Session.{Session}
 use Rattle.ignite_types.specs.declared.text.Key.{Key}
 use Rattle.ordered_table.specs.Entries.{at, put}
-use Rattle.tx_model.specs.History.{entry_from, footprint, found_after_update, fresh_walk, taker_of, walk_after_answer, walk_with_find, walk_with_open_call}
+use Rattle.tx_model.specs.Opening.{session_nodes_from}
+use Rattle.tx_model.specs.History.{Walk, entry_from, footprint, found_after_update, fresh_walk, taker_of, walk_after_answer, walk_with_find, walk_with_open_call}
 use Rattle.tx_model.specs.declared.history.CommitEntry.{CommitEntry}
-use Rattle.tx_model.specs.declared.walk.Walk.{Walk}
 use Rattle.ignite_types.specs.declared.journal.Rec.TheVariants as note
 use Rattle.ignite_types.specs.declared.message.Message.TheVariants as msg
 
@@ -152,14 +152,9 @@ abbrev pub walks_after_groups : Walks → List Group → Walks
 walks_after_groups m [] = m
 walks_after_groups m (g ∷ gs) = walks_after_groups (walks_after_records m (taker_of g.event) g.recs) gs
 
--- the node of each session from this number on
-abbrev pub nodes_from : ℕ → List (ℕ × NodeId) → List Session → List (ℕ × NodeId)
-nodes_from number nodes [] = nodes
-nodes_from number nodes (session ∷ more) = nodes_from (capped number 1) (put nat_cmp nodes number session.node) more
-
 -- before the first record
 abbrev pub opening_walks : List Session → Walks
-opening_walks sessions = record { nodes = nodes_from 1 [] sessions; lines = []; near = []; overs = []; walks = [] }
+opening_walks sessions = record { nodes = session_nodes_from 1 [] sessions; lines = []; near = []; overs = []; walks = [] }
 
 -- What a transaction read and wrote: from the one walk where it is of its session's node, as each one in a run is.
 

@@ -1,5 +1,6 @@
 -- What it means that a walk, or what a near cache was told, was taken out to be put back changed.
 use Rattle.std.specs.Prelude.{◌≡◌, List}
+use Rattle.tx_model.specs.History.{Walk}
 use Rattle.part_model.specs.Copies.{Found}
 use Rattle.commit_history.specs.declared.walks.Walks.{Walks}
 use Rattle.ignite_types.specs.Names.{node_cmp, tx_cmp}
@@ -7,7 +8,6 @@ use Rattle.ignite_types.specs.declared.names.NodeId.{NodeId}
 use Rattle.ignite_types.specs.declared.names.TxId.{TxId}
 use Rattle.ignite_types.specs.declared.text.Key.{Key}
 use Rattle.ordered_table.specs.Entries.{put}
-use Rattle.tx_model.specs.declared.walk.Walk.{Walk}
 
 pub record TakesWalk (old new : Walks) (tx : TxId) : Type 0 where
   pub others : new ≡ record old { walks = new.walks }

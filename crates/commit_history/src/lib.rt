@@ -3,10 +3,13 @@
 
 mod copies;
 mod entries;
+mod footprints;
 mod line;
+mod walk;
 mod walks;
 
 pub use entries::commits;
+pub use footprints::{footprint, serial};
 
 #[cfg(test)]
 mod tests;

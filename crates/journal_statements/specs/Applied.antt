@@ -14,12 +14,11 @@ use Rattle.ignite_types.specs.declared.names.TxId.{TxId}
 use Rattle.ignite_types.specs.declared.placement.PartMap.{PartMap}
 use Rattle.ignite_types.specs.declared.scenario.Command.{Command}
 use Rattle.ignite_types.specs.declared.text.Key.{Key}
-use Rattle.tx_model.specs.History.{footprint, same_value}
+use Rattle.tx_model.specs.History.{Walk, footprint, same_value}
 use Rattle.journal_statements.specs.Noted.{Noted, all_applied, each_record, holders_of_key, is_committed_before, map_of_version, maps_installed, noted, version_of_tx}
 use Rattle.journal_statements.specs.Told.{closing, is_told_committed}
 use Rattle.journal_statements.specs.Versions.{writes_applied}
 use Rattle.journal_statements.specs.Walks.{each_answer}
-use Rattle.tx_model.specs.declared.walk.Walk.{Walk}
 use Rattle.ignite_types.specs.declared.journal.Rec.TheVariants as note
 
 abbrev pub is_write : Key → Option (List ℕ) → Key × Option (List ℕ) → Bool

@@ -13,14 +13,13 @@ use Rattle.ignite_types.specs.declared.placement.PartMap.{PartMap}
 use Rattle.ignite_types.specs.declared.scenario.Command.{Command}
 use Rattle.ignite_types.specs.declared.text.Key.{Key}
 use Rattle.journal_statements.specs.Faults.{faults_fit}
-use Rattle.tx_model.specs.History.{is_access, is_bare}
+use Rattle.tx_model.specs.History.{Walk, is_access, is_bare}
 use Rattle.journal_statements.specs.Noted.{Noted, maps_installed, noted}
 use Rattle.journal_statements.specs.Refusals.{refusals_fit}
 use Rattle.journal_statements.specs.SameMessages.{same_fail}
 use Rattle.journal_statements.specs.Timeouts.{is_past_most, map_for, runs_in}
 use Rattle.journal_statements.specs.Told.{access_fits}
 use Rattle.journal_statements.specs.Walks.{each_answer}
-use Rattle.tx_model.specs.declared.walk.Walk.{Walk}
 use Rattle.ignite_types.specs.declared.answer.Answer.TheVariants as answer
 use Rattle.ignite_types.specs.declared.scenario.Command.TheVariants as command
 use Rattle.ignite_types.specs.declared.answer.Fault.TheVariants as fault

@@ -1,5 +1,6 @@
 -- What each node keeps, as its records tell it, and that it is the serial map wherever no commit is in work.
 use Rattle.std.specs.Prelude.{Bool, None, Option, Some, [], false, filter, if◌then◌else◌, is_some, map, ◌&&◌, ◌∷◌}
+use Rattle.act_rows.specs.NewNodes.{map_if, opening_map_of}
 use Rattle.act_rows.specs.Steps.{is_mover_in, is_owner_in}
 use Rattle.part_model.specs.Copies.{Copy, copy_after_supply, copy_after_write}
 use Rattle.part_model.specs.NextMap.{is_member}
@@ -14,7 +15,6 @@ use Rattle.ignite_types.specs.declared.placement.PartMap.{PartMap}
 use Rattle.ignite_types.specs.declared.placement.Row.{Row}
 use Rattle.ignite_types.specs.declared.scenario.Scenario.{Scenario}
 use Rattle.ignite_types.specs.declared.text.Key.{Key}
-use Rattle.tx_model.specs.Opening.{map_if, opening_map_of}
 use Rattle.ignite_types.specs.declared.message.Message.TheVariants as msg
 use Rattle.ignite_types.specs.declared.journal.Rec.TheVariants as note
 

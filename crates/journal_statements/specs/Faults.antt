@@ -2,6 +2,7 @@
 use Rattle.std.specs.List.{flat_map, list_any}
 use Rattle.std.specs.Option.{option_and_then}
 use Rattle.std.specs.Prelude.{Bool, None, Option, Some, [], false, if◌then◌else◌, not, option_to_list, true, ◌&&◌, ◌++◌, ◌||◌, ◌∷◌}
+use Rattle.tx_model.specs.History.{Walk}
 use Rattle.act_rows.specs.Accesses.{access_key}
 use Rattle.act_rows.specs.Stores.{version_of}
 use Rattle.part_model.specs.Copies.{Found, absent_version, found_in}
@@ -28,7 +29,6 @@ use Rattle.journal_statements.specs.Timeouts.{is_timed_out, keys_done, map_for, 
 use Rattle.journal_statements.specs.Topologies.{topology_events}
 use Rattle.journal_statements.specs.Waits.{holds_after, is_true_deadlock}
 use Rattle.journal_statements.specs.Walks.{each_with_tx}
-use Rattle.tx_model.specs.declared.walk.Walk.{Walk}
 use Rattle.ignite_types.specs.declared.answer.Fail.TheVariants as fail
 use Rattle.ignite_types.specs.declared.answer.Fault.TheVariants as fault
 use Rattle.ignite_types.specs.declared.message.Message.TheVariants as msg

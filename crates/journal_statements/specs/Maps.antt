@@ -1,6 +1,7 @@
 -- Each version has one map: the opening map, or the next map that its oldest member makes of the singles of all members.
 use Rattle.std.specs.List.{flat_map, list_all, list_any}
 use Rattle.std.specs.Prelude.{Bool, None, Option, Some, [], drop, false, filter, if◌then◌else◌, is_some, length, map, nat_eq, not, take, true, ℕ, ◌&&◌, ◌+◌, ◌∷◌}
+use Rattle.act_rows.specs.NewNodes.{opening_map_of}
 use Rattle.act_rows.specs.Exchange.{all_sent}
 use Rattle.part_model.specs.Directory.{oldest_member, running_from}
 use Rattle.part_model.specs.NextMap.{next_map}
@@ -17,7 +18,6 @@ use Rattle.ignite_types.specs.declared.placement.Row.{Row}
 use Rattle.ignite_types.specs.declared.scenario.Cache.{Cache}
 use Rattle.ignite_types.specs.declared.scenario.Scenario.{Scenario}
 use Rattle.journal_statements.specs.Noted.{Noted, each_record, is_lost, map_of_version, maps_installed, noted, recs_of}
-use Rattle.tx_model.specs.Opening.{opening_map_of}
 use Rattle.journal_statements.specs.SameMessages.{same_flag, same_map}
 use Rattle.journal_statements.specs.Topologies.{Topology, topologies, topology_of}
 use Rattle.ignite_types.specs.declared.message.Message.TheVariants as msg

@@ -1,6 +1,7 @@
 -- Which plan steps are refused: the loss of a node that is not in, and one that would leave a partition without an owner.
 use Rattle.std.specs.List.{flat_map}
 use Rattle.std.specs.Prelude.{Bool, None, Option, Some, [], false, filter, if◌then◌else◌, nat_eq, not, option_to_list, slice_get, true, ◌&&◌, ◌++◌, ◌∷◌}
+use Rattle.act_rows.specs.NewNodes.{map_if, opening_map_of}
 use Rattle.part_model.specs.Directory.{leaves_partition}
 use Rattle.part_model.specs.NextMap.{is_member, newer_map}
 use Rattle.ignite_types.specs.Names.{same_node}
@@ -15,7 +16,7 @@ use Rattle.ignite_types.specs.declared.scenario.PlanStep.{PlanStep}
 use Rattle.ignite_types.specs.declared.scenario.Scenario.{Scenario}
 use Rattle.ignite_types.specs.declared.scenario.Step.{Step}
 use Rattle.journal_statements.specs.Noted.{Noted, each_record, is_lost, map_in, noted, recs_of}
-use Rattle.tx_model.specs.Opening.{ids_of, map_if, opening_map_of}
+use Rattle.tx_model.specs.Opening.{ids_of}
 use Rattle.journal_statements.specs.SameMessages.{same_maybe}
 use Rattle.journal_statements.specs.Topologies.{events_in_rec, first_topology, last_topology}
 use Rattle.ignite_types.specs.declared.journal.Rec.TheVariants as note

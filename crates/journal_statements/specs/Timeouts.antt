@@ -16,12 +16,11 @@ use Rattle.ignite_types.specs.declared.scenario.Mode.{Mode}
 use Rattle.ignite_types.specs.declared.text.Key.{Key}
 use Rattle.ordered_set.specs.Members.{has, with_member}
 use Rattle.ordered_table.specs.Entries.{at}
-use Rattle.tx_model.specs.History.{fresh_walk, is_called}
+use Rattle.tx_model.specs.History.{Walk, fresh_walk, is_called}
 use Rattle.journal_statements.specs.Noted.{Noted, map_of_version}
 use Rattle.journal_statements.specs.Versions.{is_decided}
 use Rattle.journal_statements.specs.Waits.{is_expire_of}
 use Rattle.journal_statements.specs.Walks.{walk_of_records, walk_on}
-use Rattle.tx_model.specs.declared.walk.Walk.{Walk}
 use Rattle.ignite_types.specs.declared.scenario.Command.TheVariants as command
 use Rattle.ignite_types.specs.declared.scenario.Mode.TheVariants as mode
 use Rattle.ignite_types.specs.declared.journal.Rec.TheVariants as note

@@ -6,6 +6,7 @@ use Rattle.std.specs.declared.cmp.Ordering.TheVariants.{Less, Equal, Greater}
 use Rattle.std.specs.Prelude.{nat_le, nat_lt, slice_get}
 use Rattle.std.proofs.lemmas.Bool.Decides.{nat_tests}
 use Rattle.std.proofs.lemmas.List.Folds.{list_any-append}
+use Rattle.act_rows.specs.NewNodes.{opening_map_of}
 use Rattle.part_model.specs.Directory.{node_set}
 use Rattle.part_model.specs.Links.{Inbox, Link, inbox_from, new_inbox}
 use Rattle.part_model.specs.NextMap.{is_member}
@@ -23,7 +24,7 @@ use Rattle.link_laws.proofs.Places.{after_map, node_apart, some_is}
 use Rattle.ordered_set.specs.Members.{with_member}
 use Rattle.ordered_table.proofs.Laws as laws
 use Rattle.ordered_table.specs.Entries.{at, put}
-use Rattle.tx_model.specs.Opening.{declared_nodes, ids_of, opening, opening_map_of, opening_part}
+use Rattle.tx_model.specs.Opening.{declared_nodes, ids_of, opening, opening_part}
 use Rattle.tx_model.specs.World.{Part}
 use Rattle.node_state.specs.declared.life.Life.TheVariants as life
 

@@ -6,6 +6,7 @@ use Rattle.std.specs.Ordering.{match_ordering, nat_cmp}
 use Rattle.std.specs.declared.cmp.Ordering.TheVariants.{Less, Equal, Greater}
 use Rattle.std.specs.Cmp.{IsTotalOrder, on_total}
 use Rattle.std.proofs.lemmas.Cmp.{nat_cmp_total, tied_itself}
+use Rattle.act_rows.specs.NewNodes.{opening_map_of}
 use Rattle.ignite_types.proofs.NameLaws.{exact_nodes, node_total, same_node_true}
 use Rattle.ignite_types.specs.Names.{node_cmp, same_node}
 use Rattle.ignite_types.specs.declared.journal.Event.{Event}
@@ -26,7 +27,7 @@ use Rattle.ordered_set.specs.Members.{with_member}
 use Rattle.ordered_table.proofs.Ascending.{ascending_put}
 use Rattle.ordered_table.specs.Entries.{at, put}
 use Rattle.ordered_table.specs.Places.{IsAscending, IsBelowAll}
-use Rattle.tx_model.specs.Opening.{declared_nodes, ids_of, opening, opening_map_of, opening_parts, session_nodes_from}
+use Rattle.tx_model.specs.Opening.{declared_nodes, ids_of, opening, opening_parts, session_nodes_from}
 use Rattle.tx_model.specs.Runs.{AreSteps}
 use Rattle.tx_model.specs.World as world
 use Rattle.tx_model.specs.World.{Part, World, inbox_on, live_place, outcome, part_on, session_node}

@@ -1,8 +1,8 @@
 //! A declared node before its first act.
 
 ghost use Rattle.std.specs.Prelude.{◌≡◌, [], IfOk};
+ghost use Rattle.act_rows.specs.NewNodes.{empty_copies, map_if, opening_map_of, opening_node, session_states_on};
 ghost use Rattle.part_model.specs.NextMap.{servers};
-ghost use Rattle.tx_model.specs.Opening.{empty_copies, map_if, opening_map_of, opening_node, session_states_on};
 
 use discovery_order::{first_top, running_from};
 use ignite_types::{List, Mem, Member, NodeId, PartMap, Row, Scenario, Session};

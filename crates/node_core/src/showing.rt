@@ -1,9 +1,9 @@
 //! What a node's state says of possible events.
 
 ghost use Rattle.std.specs.Prelude.{◌≡◌};
+ghost use Rattle.act_rows.specs.Commands.{is_over_or_absent};
 ghost use Rattle.act_rows.specs.Acts.{may_answer, may_call, may_send};
 ghost use Rattle.act_rows.specs.Steps.{session_state_of};
-ghost use Rattle.tx_model.specs.World.{is_over_or_absent};
 
 use near_side::{answer_at, call_at, session_state_over};
 use node_steps::Node;

@@ -1,12 +1,13 @@
 -- What stays in one event stays in every run.
 use Rattle.std.proofs.Common.{List, [], ◌∷◌, refl}
+use Rattle.act_rows.specs.NewNodes.{opening_map_of}
 use Rattle.ignite_types.specs.declared.journal.Group.{Group}
 use Rattle.ignite_types.specs.declared.names.NodeId.{NodeId}
 use Rattle.ignite_types.specs.declared.placement.PartMap.{PartMap}
 use Rattle.ignite_types.specs.declared.scenario.Scenario.{Scenario}
 use Rattle.run_laws.specs.Staying.{ClocksAgree, InTime, Runs}
 use Rattle.run_laws.proofs.Staying.{Keeps, event_keeps, itself, twice}
-use Rattle.tx_model.specs.Opening.{ids_of, opening, opening_map_of, opening_parts}
+use Rattle.tx_model.specs.Opening.{ids_of, opening, opening_parts}
 use Rattle.tx_model.specs.Runs.{world_after}
 use Rattle.tx_model.specs.World.{World, outcome}
 

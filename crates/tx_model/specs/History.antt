@@ -4,7 +4,6 @@ use Rattle.std.specs.Cmp.Lexicographic.{pointwise}
 use Rattle.std.specs.List.{flat_map}
 use Rattle.std.specs.Prelude.{Bool, Err, None, Ok, Option, Result, Some, [], false, if◌then◌else◌, is_some, nat_eq, not, true, unwrap_or, ℕ, ℤ, ◌&&◌, ◌+◌, ◌==◌, ◌||◌, ◌∷◌}
 use Rattle.act_rows.specs.Accesses.{access_key}
-use Rattle.act_rows.specs.Commands.{moment_after}
 use Rattle.act_rows.specs.Steps.{no_top}
 use Rattle.part_model.specs.Copies.{Found}
 use Rattle.part_model.specs.Numbers.{sum_with_value}
@@ -27,7 +26,6 @@ use Rattle.ordered_set.specs.Members.{has, with_member}
 use Rattle.ordered_table.specs.Entries.{at, put, without}
 use Rattle.tx_model.specs.declared.history.BadRead.{BadRead}
 use Rattle.tx_model.specs.declared.history.CommitEntry.{CommitEntry}
-use Rattle.tx_model.specs.declared.walk.Walk.{Walk}
 use Rattle.ignite_types.specs.declared.answer.Answer.TheVariants as answer
 use Rattle.ignite_types.specs.declared.scenario.Command.TheVariants as command
 use Rattle.ignite_types.specs.declared.journal.Event.TheVariants as event
@@ -52,6 +50,31 @@ is_done answer.Absent = true
 is_done answer.NotNumber = true
 is_done answer.Overflow = true
 is_done _ = false
+
+-- What a walk over the records knows of one transaction.
+pub record Walk : Type 0 where
+  -- the transaction's version, once it has started
+  pub top : Option TopVer
+  -- how many transactions its session has started
+  pub started : ℕ
+  -- whether the session's block is open
+  pub block : Bool
+  -- whether the block's fault was told, and its accesses are skipped
+  pub skipping : Bool
+  -- the session's command that is not answered yet
+  pub called : Option Command
+  -- what the near cache knew of that command's key at its act
+  pub near_read : Found
+  -- what was first found for it at each key
+  pub finds : List (Key × Found)
+  -- what its starter's near cache was last told of each key
+  pub near : List (Key × Found)
+  -- the transactions with a decision or a fault
+  pub overs : List TxId
+  -- whether it is decided for commit
+  pub committed : Bool
+  pub reads : List (Key × Option (List ℕ))
+  pub writes : List (Key × Option (List ℕ))
 
 -- before the first record
 abbrev pub fresh_walk : Walk

@@ -405,10 +405,6 @@ is_enabled w e = not w.broken && can_be w e && (not (is_tick e) || is_quiet w)
 
 -- Ends.
 
-abbrev pub is_over_or_absent : Option SessionState → Bool
-is_over_or_absent None = true
-is_over_or_absent (Some d) = is_session_state_over d
-
 -- the session of a lost node has ended
 abbrev pub is_session_over_at : ℕ → NodeState → Life → Bool
 is_session_over_at session node life.Gone = true

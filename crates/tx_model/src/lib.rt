@@ -1,10 +1,8 @@
-//! The world's machine, runs and histories, as definitions; and the calls that compute a history.
+//! The world's machine, runs and histories, as definitions.
 #![tactic(auto)]
 
 mod history;
 mod outlook;
-mod walk;
 
-pub use history::{BadRead, CommitEntry, committed, entry_of, footprint, serial};
+pub use history::{BadRead, CommitEntry};
 pub use outlook::{Outlook, Standing};
-pub use walk::{Walk, access_key, newly_found, taker_of};

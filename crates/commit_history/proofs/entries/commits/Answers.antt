@@ -1,6 +1,7 @@
 use Rattle.std.proofs.Common.{List, [], ap, refl, ◌∙◌}
+use Rattle.tx_model.specs.Opening.{session_nodes_from}
 use Rattle.commit_history.specs.Firsts.{firsts}
-use Rattle.commit_history.specs.Steps.{nodes_from, opening_walks}
+use Rattle.commit_history.specs.Steps.{opening_walks}
 use Rattle.ignite_types.specs.declared.journal.Group.{Group}
 use Rattle.ignite_types.specs.declared.scenario.Session.{Session}
 use Rattle.tx_model.specs.History.{records}

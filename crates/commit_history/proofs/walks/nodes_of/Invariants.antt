@@ -1,5 +1,5 @@
 use Rattle.std.proofs.Common.{◌≡◌, [], drop}
-use Rattle.commit_history.specs.Steps.{nodes_from}
+use Rattle.tx_model.specs.Opening.{session_nodes_from}
 use Rattle.commit_history.proofs.walks.nodes_of.Given as goal
 
 abbrev pub invariant-loop-session : goal.invariant-loop-session

@@ -1,5 +1,5 @@
 use Rattle.std.proofs.Common.{drop, ◌++◌, ◌≡◌}
-use Rattle.tx_model.specs.Opening.{empty_copies}
+use Rattle.act_rows.specs.NewNodes.{empty_copies}
 use Rattle.node_core.proofs.opening.empty_copies.Given as goal
 
 abbrev pub invariant-loop-row : goal.invariant-loop-row

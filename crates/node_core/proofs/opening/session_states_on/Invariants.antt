@@ -1,5 +1,5 @@
 use Rattle.std.proofs.Common.{[], drop, ◌≡◌}
-use Rattle.tx_model.specs.Opening.{session_states_on}
+use Rattle.act_rows.specs.NewNodes.{session_states_on}
 use Rattle.node_core.proofs.opening.session_states_on.Given as goal
 
 abbrev pub invariant-loop-session : goal.invariant-loop-session
