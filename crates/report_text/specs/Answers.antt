@@ -15,7 +15,7 @@ use Rattle.ignite_types.specs.declared.names.TxId.{TxId}
 use Rattle.ignite_types.specs.declared.scenario.Cache.{Cache}
 use Rattle.ignite_types.specs.declared.scenario.Scenario.{Scenario}
 use Rattle.ignite_types.specs.declared.scenario.Session.{Session}
-use Rattle.scen_text.specs.Items.{key_text}
+use Rattle.scen_print.specs.Items.{key_text}
 
 -- a session's name, where there is such a session
 abbrev pub session_name : Option Session → List ℕ

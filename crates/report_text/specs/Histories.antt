@@ -9,7 +9,7 @@ use Rattle.ignite_types.specs.declared.scenario.Scenario.{Scenario}
 use Rattle.ignite_types.specs.declared.text.Key.{Key}
 use Rattle.report_text.specs.Answers.{top_text, tx_text}
 use Rattle.report_text.specs.Plans.{count_line}
-use Rattle.scen_text.specs.Items.{key_text}
+use Rattle.scen_print.specs.Items.{key_text}
 use Rattle.tx_model.specs.History.{Map, map_after_commits}
 use Rattle.tx_model.specs.declared.history.CommitEntry.{CommitEntry}
 

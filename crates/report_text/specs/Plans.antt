@@ -9,8 +9,8 @@ use Rattle.ignite_types.specs.declared.scenario.PlanStep.{PlanStep}
 use Rattle.ignite_types.specs.declared.scenario.Scenario.{Scenario}
 use Rattle.report_text.specs.Answers.{tx_text}
 use Rattle.report_text.specs.declared.digest.Deadlock.{Deadlock}
-use Rattle.scen_text.specs.Items.{key_text}
-use Rattle.scen_text.specs.Printing.{step_text}
+use Rattle.scen_print.specs.Items.{key_text}
+use Rattle.scen_print.specs.Printing.{step_text}
 use Rattle.ignite_types.specs.declared.journal.NoLoss.TheVariants as refusal
 
 -- a word and a number, as a line

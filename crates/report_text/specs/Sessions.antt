@@ -9,7 +9,7 @@ use Rattle.ignite_types.specs.declared.scenario.Scenario.{Scenario}
 use Rattle.ignite_types.specs.declared.scenario.Session.{Session}
 use Rattle.report_text.specs.Answers.{item_told_text}
 use Rattle.report_text.specs.declared.digest.Given.{Given}
-use Rattle.scen_text.specs.Items.{item_text}
+use Rattle.scen_print.specs.Items.{item_text}
 use Rattle.tx_model.specs.declared.outlook.Standing.{Standing}
 use Rattle.part_model.specs.declared.script.Told.TheVariants as told
 use Rattle.tx_model.specs.declared.outlook.Standing.TheVariants as standing

@@ -1,12 +1,12 @@
 //! The texts of names, versions and answers.
 
 ghost use Rattle.std.specs.Prelude.{◌≡◌, ◌-◌, ◌∷◌, ◌++◌, decimal, slice_get, OnOk};
-ghost use Rattle.scen_text.specs.Items.{key_text};
+ghost use Rattle.scen_print.specs.Items.{key_text};
 ghost use Rattle.report_text.specs.Answers.{answer_text, cache_name, fail_text, fault_text, item_told_text, nodes_text, session_name, top_text, tx_text, version_text};
 
 use part_model::Told;
 use ignite_types::{Answer, CacheVersion, Fail, Fault, Key, Mem, NodeId, Scenario, TopVer, TxId};
-use scen_text::{TextOut, write_key};
+use scen_print::{TextOut, write_key};
 
 /// Writes one byte and a number.
 fn write_marked(out: &mut TextOut, mark: u8, number: u64) -> Mem<()>

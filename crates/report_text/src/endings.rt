@@ -7,7 +7,7 @@ ghost use Rattle.report_text.specs.Endings as endings;
 use crate::answers::{write_nodes, write_word_top, write_word_tx};
 use crate::plans::write_wait;
 use ignite_types::{End, Mem, NodeId, Scenario, Session, TopVer, TxId};
-use scen_text::TextOut;
+use scen_print::TextOut;
 use tx_model::{Outlook, Standing};
 
 /// Writes the highest version, as a line.

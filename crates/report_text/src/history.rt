@@ -10,7 +10,7 @@ use discovery_order::{change_running, first_top, running_from, version_after};
 use ignite_types::{Key, List, Mem, Scenario, TopVer, TopoEvent, Value};
 use ordered_set::Set;
 use ordered_table::Table;
-use scen_text::{TextOut, write_key};
+use scen_print::{TextOut, write_key};
 use std::alloc::Global;
 use tx_model::CommitEntry;
 

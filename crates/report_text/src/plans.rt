@@ -7,7 +7,7 @@ ghost use Rattle.report_text.specs.Plans as plans;
 use crate::answers::{write_node, write_tx, write_word_key, write_word_tx};
 use crate::digest::Deadlock;
 use ignite_types::{Cache, Edge, Mem, NoLoss, NodeId, PlanStep, Scenario, Wait};
-use scen_text::{TextOut, write_step};
+use scen_print::{TextOut, write_step};
 
 /// Writes a word and a number, as a line.
 pub fn write_count(out: &mut TextOut, word: &str, count: u64) -> Mem<()>

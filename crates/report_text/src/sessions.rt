@@ -10,7 +10,7 @@ use crate::digest::Given;
 use part_model::{Phase, Progress, Told};
 use ignite_types::{Answer, Item, List, Mem, Scenario, Session};
 use ordered_table::Table;
-use scen_text::{TextOut, write_item};
+use scen_print::{TextOut, write_item};
 use session_scripts::advance_told;
 use std::alloc::Global;
 use tx_model::{Outlook, Standing};

@@ -5,7 +5,8 @@ use ignite_types::{
     Answer, CacheVersion, Edge, End, Event, Fail as Failure, Fault, Group, Journal, Key, List, Mem,
     NoLoss, NodeId, Rec, TopVer, TopoEvent, TxId, Value, Wait,
 };
-use scen_text::{TextOut, read_scenario};
+use scen_print::TextOut;
+use scen_text::read_scenario;
 use std::alloc::Global;
 use std::test::Fail;
 use tx_model::{CommitEntry, Outlook, Standing};

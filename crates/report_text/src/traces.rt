@@ -6,7 +6,7 @@ ghost use Rattle.report_text.specs.Traces as traces;
 use crate::answers::{write_node, write_nodes, write_session_name, write_word_tx};
 use crate::plans::write_count;
 use ignite_types::{Event, Group, Mem, Scenario};
-use scen_text::TextOut;
+use scen_print::TextOut;
 
 /// Writes a word and a session's name.
 fn write_of_session(out: &mut TextOut, scenario: &Scenario, word: &str, session: u32) -> Mem<()>

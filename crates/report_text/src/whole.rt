@@ -10,7 +10,7 @@ use crate::plans::{write_count, write_deadlocks, write_plan};
 use crate::sessions::write_sessions;
 use crate::traces::write_trace;
 use ignite_types::{Journal, Mem, Scenario};
-use scen_text::TextOut;
+use scen_print::TextOut;
 use std::alloc::Global;
 use tx_model::{CommitEntry, Outlook};
 

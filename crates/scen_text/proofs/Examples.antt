@@ -17,7 +17,7 @@ use Rattle.ignite_types.specs.declared.scenario.Step.TheVariants as step
 use Rattle.scen_text.specs.declared.cause.Cause.TheVariants.{Syntax, Limit, NoSuchNode}
 use Rattle.scen_text.specs.declared.cause.What.TheVariants as what
 use Rattle.scen_text.specs.Causes.{refusal_text}
-use Rattle.scen_text.specs.Printing.{scenario_text}
+use Rattle.scen_print.specs.Printing.{scenario_text}
 use Rattle.scen_text.specs.Reading.{scenario_of}
 use Rattle.scen_text.specs.Words.{integer, number_of_word, words}
 

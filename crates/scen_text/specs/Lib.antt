@@ -1,13 +1,11 @@
 pub mod Causes
 pub mod Drafts
 pub mod Forms
-pub mod Items
 pub mod Keywords
 pub mod Known
 pub mod Limits
 pub mod Meaning
 pub mod Places
 pub mod Plans
-pub mod Printing
 pub mod Reading
 pub mod Words

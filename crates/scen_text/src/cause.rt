@@ -4,8 +4,8 @@ ghost use Rattle.std.specs.Prelude.{◌≡◌, ◌++◌, codes, decimal, IfOk, S
 ghost use Rattle.scen_text.specs.declared.cause.LineFault.TheVariants as fault;
 ghost use Rattle.scen_text.specs.Causes.{what_text, cause_text, past_text, refusal_text, rule, fit};
 
-use crate::text_out::TextOut;
 use ignite_types::{Mem, NoMemory};
+use scen_print::TextOut;
 use std::alloc::Global;
 use std::fmt;
 

@@ -12,7 +12,7 @@ use Rattle.std.specs.Cmp.Lexicographic.{slice_cmp}
 use Rattle.std.specs.declared.cmp.Ordering.{Ordering}
 use Rattle.std.specs.declared.cmp.Ordering.TheVariants.{Less, Equal, Greater}
 use Rattle.summary_text.specs.Json.{by_text, changes_data, characters, commit_data, commits_data, history_data, pair_data, pairs, present_pairs, value_data}
-use Rattle.scen_text.specs.Items.{key_text}
+use Rattle.scen_print.specs.Items.{key_text}
 use Rattle.tx_model.specs.History.{map_after_commits}
 use Rattle.tx_model.specs.declared.history.CommitEntry.{CommitEntry}
 

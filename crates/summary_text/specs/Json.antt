@@ -3,7 +3,7 @@ use Rattle.std.specs.Prelude.{List, None, Option, Some, [], codes, encode_utf8, 
 use Rattle.ignite_types.specs.declared.scenario.Scenario.{Scenario}
 use Rattle.ignite_types.specs.declared.text.Key.{Key}
 use Rattle.report_text.specs.Answers.{top_text, tx_text}
-use Rattle.scen_text.specs.Items.{key_text}
+use Rattle.scen_print.specs.Items.{key_text}
 use Rattle.serde_json.specs.Data.{Data, Items, Members, array, item, member, no_items, no_members, null, object, put, string}
 use Rattle.serde_json.specs.Written.{compact_text}
 use Rattle.tx_model.specs.History.{Map, map_after_commits}

@@ -2,7 +2,7 @@
 
 ghost use Rattle.std.specs.Prelude.{◌≡◌, false, [], ◌∷◌, ◌++◌, string_bytes, IfOk, OnOk};
 ghost use Rattle.report_text.specs.Answers as names;
-ghost use Rattle.scen_text.specs.Items.{key_text};
+ghost use Rattle.scen_print.specs.Items.{key_text};
 ghost use Rattle.serde_json.specs.Data.{array, put, string};
 ghost use Rattle.serde_json.specs.View.{members_view, view};
 ghost use Rattle.serde_json.specs.Written.{compact_text, has_float};
@@ -11,7 +11,7 @@ ghost use Rattle.tx_model.specs.History as history;
 
 use ignite_types::{Key, List, Mem, Scenario, TopVer, TxId, Value as Bytes};
 use report_text::{map_after, write_top, write_tx};
-use scen_text::{TextOut, write_key};
+use scen_print::{TextOut, write_key};
 use serde_json::{Map, Value};
 use std::alloc::Global;
 use tx_model::CommitEntry;

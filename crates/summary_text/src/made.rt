@@ -11,7 +11,7 @@ use ignite_types::{Answer, Command, Item, Journal, Key, List, Mem, Session, Valu
 use report_text::{
     Given, all_told, answers_to, digest_of, end_status, shown_map, write_count, write_top_line,
 };
-use scen_text::TextOut;
+use scen_print::TextOut;
 use session_scripts::number_of;
 use std::alloc::Global;
 use tx_model::{CommitEntry, Outlook};

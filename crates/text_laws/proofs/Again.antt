@@ -7,7 +7,7 @@ use Rattle.scen_text.specs.declared.cause.Cause.{Cause}
 use Rattle.scen_text.specs.declared.cause.ReadFault.{ReadFault}
 use Rattle.scen_text.specs.declared.cause.ReadFault.TheVariants.{Refused}
 use Rattle.scen_text.specs.Causes.{Reads}
-use Rattle.scen_text.specs.Printing.{scenario_text}
+use Rattle.scen_print.specs.Printing.{scenario_text}
 use Rattle.scen_text.specs.Reading.{scenario_of}
 use Rattle.text_laws.specs.RoundTrip.{has_longs}
 use Rattle.text_laws.proofs.Whole.{reads_back}

@@ -12,7 +12,7 @@ use Rattle.ignite_types.specs.declared.scenario.PlanStep.{PlanStep}
 use Rattle.ignite_types.specs.declared.scenario.Scenario.{Scenario}
 use Rattle.ignite_types.specs.declared.scenario.Step.{Step}
 use Rattle.ignite_types.specs.declared.scenario.Step.TheVariants as step
-use Rattle.scen_text.specs.Printing.{scenario_text}
+use Rattle.scen_print.specs.Printing.{scenario_text}
 use Rattle.scen_text.specs.Reading.{scenario_of}
 use Rattle.text_laws.proofs.Lines.{all_lines}
 use Rattle.text_laws.specs.RoundTrip.{has_longs}

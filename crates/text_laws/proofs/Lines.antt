@@ -12,8 +12,8 @@ use Rattle.ignite_types.specs.declared.scenario.Scenario.{Scenario}
 use Rattle.ignite_types.specs.declared.scenario.Session.{Session}
 use Rattle.ignite_types.specs.declared.scenario.Step.{Step}
 use Rattle.ignite_types.specs.declared.scenario.Step.TheVariants.{Join, Lose, Hold, Release, Start, Stop}
-use Rattle.scen_text.specs.Items.{mode_text, key_text}
-use Rattle.scen_text.specs.Printing.{role_text}
+use Rattle.scen_print.specs.Items.{mode_text, key_text}
+use Rattle.scen_print.specs.Printing.{role_text}
 
 abbrev pub shape_words : Cache → List (List ℕ)
 shape_words cache = cache.name ∷ decimal cache.parts ∷ decimal cache.backups ∷ decimal cache.near ∷ []

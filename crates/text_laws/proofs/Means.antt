@@ -16,9 +16,9 @@ use Rattle.scen_text.specs.declared.line.Line.TheVariants as line
 use Rattle.scen_text.specs.declared.line.Setting.TheVariants as setting
 use Rattle.scen_text.specs.declared.line.Verb.TheVariants as verb
 use Rattle.scen_text.specs.Forms.{key_words, object_words}
-use Rattle.scen_text.specs.Items.{mode_text}
+use Rattle.scen_print.specs.Items.{mode_text}
 use Rattle.scen_text.specs.Meaning.{meaning}
-use Rattle.scen_text.specs.Printing.{role_text}
+use Rattle.scen_print.specs.Printing.{role_text}
 use Rattle.text_laws.proofs.Lines.{shape_words, setting_words, member_words}
 use Rattle.text_laws.specs.RoundTrip.{is_long}
 use Rattle.text_laws.proofs.Names.{name-read, name-word, value-read, value-word}

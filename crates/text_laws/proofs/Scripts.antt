@@ -26,7 +26,7 @@ use Rattle.scen_text.specs.declared.line.Verb.TheVariants as verb
 use Rattle.scen_text.specs.declared.place.Place.{Place}
 use Rattle.scen_text.specs.declared.place.Place.TheVariants as place
 use Rattle.scen_text.specs.Drafts.{draft_after_line, has_room, verb_stands, with_bare, with_item, with_keyed, with_object}
-use Rattle.scen_text.specs.Items.{key_text}
+use Rattle.scen_print.specs.Items.{key_text}
 use Rattle.scen_text.specs.Known.{cache_place, has_object, is_other, names_data, names_plain, same_object, same_object_kind}
 use Rattle.scen_text.specs.Limits.{bare_fits, kind_of, keyed}
 use Rattle.scen_text.specs.Places.{in_script, is_outside, place_after}

@@ -12,7 +12,7 @@ use Rattle.ignite_types.specs.declared.scenario.Scenario.{Scenario}
 use Rattle.ignite_types.specs.declared.scenario.Session.{Session}
 use Rattle.ignite_types.specs.declared.scenario.Step.{Step}
 use Rattle.ignite_types.specs.declared.scenario.Step.TheVariants as step
-use Rattle.scen_text.specs.Printing.{shape_text, setting_text, first_text, cache_line_text, head_text, member_text, started_text, stopped_text, step_text, planned_text, item_line_text, session_text, scenario_text}
+use Rattle.scen_print.specs.Printing.{shape_text, setting_text, first_text, cache_line_text, head_text, member_text, started_text, stopped_text, step_text, planned_text, item_line_text, session_text, scenario_text}
 use Rattle.text_laws.proofs.Lines.{shape_words, cache_lines, first_lines, head_lines, member_words, started_words, stopped_words, step_words, planned_words, command_words, item_words, session_lines, all_lines}
 use Rattle.text_laws.proofs.Split.{spaced, text_of}
 

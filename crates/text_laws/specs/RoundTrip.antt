@@ -6,7 +6,7 @@ use Rattle.ignite_types.specs.declared.scenario.Command.TheVariants.{Add}
 use Rattle.ignite_types.specs.declared.scenario.Item.{Item}
 use Rattle.ignite_types.specs.declared.scenario.Item.TheVariants.{Plain, Incr}
 use Rattle.ignite_types.specs.declared.scenario.Scenario.{Scenario}
-use Rattle.scen_text.specs.Printing.{scenario_text}
+use Rattle.scen_print.specs.Printing.{scenario_text}
 use Rattle.scen_text.specs.Reading.{scenario_of}
 
 -- an integer of 64 bits

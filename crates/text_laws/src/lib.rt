@@ -3,14 +3,15 @@
 
 ghost use Rattle.std.specs.Prelude.{◌≡◌, ◌<◌, length, IfOk, IsTrue, MatchOption};
 ghost use Rattle.ignite_types.specs.Good.{good};
-ghost use Rattle.scen_text.specs.Printing.{scenario_text};
+ghost use Rattle.scen_print.specs.Printing.{scenario_text};
 ghost use Rattle.text_laws.specs.RoundTrip.{ReadsBack};
 
 mod longs;
 
 use ignite_types::{Mem, NoMemory, Scenario};
 pub use longs::integers_are_long;
-use scen_text::{ReadFault, TEXT_BYTES, print_scenario, read_scenario};
+use scen_print::print_scenario;
+use scen_text::{ReadFault, TEXT_BYTES, read_scenario};
 use std::alloc::Global;
 
 /// The canonical text of each good scenario, if it is no longer than a text may be, is read as that scenario.

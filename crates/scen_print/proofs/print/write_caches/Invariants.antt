@@ -1,6 +1,6 @@
 use Rattle.std.proofs.Common.{◌≡◌, ◌++◌, drop}
 use Rattle.std.specs.Prelude.{flat_map}
-use Rattle.scen_text.specs.Printing.{cache_line_text}
+use Rattle.scen_print.specs.Printing.{cache_line_text}
 use Rattle.scen_text.proofs.print.write_caches.Given as goal
 
 abbrev pub invariant-loop-cache : goal.invariant-loop-cache

@@ -9,7 +9,7 @@ use Rattle.ignite_types.specs.declared.scenario.Scenario.{Scenario}
 use Rattle.ignite_types.specs.declared.scenario.Session.{Session}
 use Rattle.ignite_types.specs.declared.scenario.Step.{Step}
 use Rattle.ignite_types.specs.declared.scenario.Step.TheVariants.{Join, Lose, Hold, Release, Start, Stop}
-use Rattle.scen_text.specs.Items.{item_text}
+use Rattle.scen_print.specs.Items.{item_text}
 
 -- `NAME P B R`
 abbrev pub shape_text : Cache → List ℕ

@@ -1,6 +1,6 @@
 use Rattle.std.proofs.Common.{◌≡◌, ◌++◌, drop}
 use Rattle.std.specs.Prelude.{flat_map}
-use Rattle.scen_text.specs.Printing.{planned_text}
+use Rattle.scen_print.specs.Printing.{planned_text}
 use Rattle.scen_text.proofs.print.write_plan.Given as goal
 
 abbrev pub invariant-loop-planned : goal.invariant-loop-planned

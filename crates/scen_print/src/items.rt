@@ -2,7 +2,7 @@
 
 ghost use Rattle.std.specs.Prelude.{◌≡◌, ◌∷◌, ◌++◌, decimal, OnOk};
 ghost use Rattle.std.specs.Fmt.{signed_decimal};
-ghost use Rattle.scen_text.specs.Items.{mode_text, key_text, command_text, item_text};
+ghost use Rattle.scen_print.specs.Items.{mode_text, key_text, command_text, item_text};
 
 use crate::text_out::TextOut;
 use ignite_types::{Command, Item, Key, Mem, Mode, Scenario, Value};

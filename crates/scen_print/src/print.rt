@@ -1,7 +1,7 @@
 //! Printing a scenario as its canonical text.
 
 ghost use Rattle.std.specs.Prelude.{◌≡◌, ◌∷◌, ◌++◌, [], decimal, flat_map, slice_get, OnOk, IfOk};
-ghost use Rattle.scen_text.specs.Printing.{shape_text, setting_text, settings_text, first_text, cache_line_text, head_text, role_text, member_text, link_text, started_text, stopped_text, step_text, planned_text, item_line_text, session_text, scenario_text};
+ghost use Rattle.scen_print.specs.Printing.{shape_text, setting_text, settings_text, first_text, cache_line_text, head_text, role_text, member_text, link_text, started_text, stopped_text, step_text, planned_text, item_line_text, session_text, scenario_text};
 
 use crate::items::write_item;
 use crate::text_out::TextOut;
