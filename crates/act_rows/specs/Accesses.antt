@@ -12,6 +12,7 @@ use Rattle.ignite_types.specs.Names.{key_cmp, node_cmp, same_key, share_cmp}
 use Rattle.ignite_types.specs.Placement.{first_owner, row_of}
 use Rattle.ignite_types.specs.declared.answer.Answer.{Answer}
 use Rattle.ignite_types.specs.declared.answer.Fail.{Fail}
+use Rattle.ignite_types.specs.declared.limits.TheConstants.{TRANSACTION_KEYS}
 use Rattle.ignite_types.specs.declared.list.List.{List}
 use Rattle.ignite_types.specs.declared.message.Out.{Out}
 use Rattle.ignite_types.specs.declared.message.Wanted.{Wanted}
@@ -157,7 +158,8 @@ with_preparing s tx nodes shares = on_entry s tx (λ (e : TxEntry). record e {
 }) (entry_of s tx)
 
 abbrev pub after_send_prepares : NodeState → TxId → TopVer → TxEntry → List NodeId → List Share → NodeState
-after_send_prepares s tx top entry nodes shares = with_outs (with_preparing s tx nodes shares) (prepare_outs s tx top entry shares nodes)
+after_send_prepares s tx top entry nodes shares =
+    with_outs (with_preparing s tx nodes shares) (prepare_outs s tx top entry shares nodes)
 
 -- without keys the decision comes at once
 abbrev pub after_commit_of_keys : NodeState → TxId → TopVer → TxEntry → List Key → NodeState
@@ -185,15 +187,19 @@ after_access_refused s tx true a = with_answer_ready s tx.session a
 after_access_refused s tx false a = after_decide (with_outcome s tx a) tx false
 
 abbrev pub after_add : NodeState → TxId → TopVer → Bool → Key → Result (List ℕ) Answer → NodeState
-after_add s tx top block key (Ok value) = after_access_done (with_write s tx key (Some value)) tx top block (answer.Found value)
+after_add s tx top block key (Ok value) =
+    after_access_done (with_write s tx key (Some value)) tx top block (answer.Found value)
 after_add s tx top block key (Err a) = after_access_refused s tx block a
 
 -- an access of a key that the transaction has, or whose value is known
 abbrev pub after_known_access : NodeState → TxId → TopVer → Bool → Command → NodeState
-after_known_access s tx top block (command.Get key) = after_access_done s tx top block (answer_of_value (value_at (entry_of s tx) key))
-after_known_access s tx top block (command.Put key value) = after_access_done (with_write s tx key (Some value)) tx top block answer.Done
+after_known_access s tx top block (command.Get key) =
+    after_access_done s tx top block (answer_of_value (value_at (entry_of s tx) key))
+after_known_access s tx top block (command.Put key value) =
+    after_access_done (with_write s tx key (Some value)) tx top block answer.Done
 after_known_access s tx top block (command.Remove key) = after_access_done (with_write s tx key None) tx top block answer.Done
-after_known_access s tx top block (command.Add key amount) = after_add s tx top block key (sum_with_value (value_at (entry_of s tx) key) amount)
+after_known_access s tx top block (command.Add key amount) =
+    after_add s tx top block key (sum_with_value (value_at (entry_of s tx) key) amount)
 after_known_access s tx top block _ = s
 
 -- whether what this Get finds is to be kept in the near cache
@@ -202,11 +208,13 @@ is_near_kept s key = not (nat_eq (near_size s key) 0) && not (is_holder s s.me k
 
 -- a near entry is used: it comes to the front and counts as read
 abbrev pub after_near_hit : NodeState → TxId → Key → NearEntry → NodeState
-after_near_hit s tx key e = with_read (with_near s key (near_front (near_of s key) e)) tx key (record { found = Some e.value; ver = e.ver })
+after_near_hit s tx key e =
+    with_read (with_near s key (near_front (near_of s key) e)) tx key (record { found = Some e.value; ver = e.ver })
 
 -- a value that an optimistic access needs: from the near cache, or from the primary
 abbrev pub after_optimistic_read : NodeState → TxId → TopVer → Bool → Command → Key → NodeId → Option NearEntry → NodeState
-after_optimistic_read s tx top block c key primary (Some e) = after_known_access (after_near_hit (with_touched s tx key) tx key e) tx top block c
+after_optimistic_read s tx top block c key primary (Some e) =
+    after_known_access (after_near_hit (with_touched s tx key) tx key e) tx top block c
 after_optimistic_read s tx top block c key primary None = let near = is_near_kept s key in
     with_out (with_value_asked s tx key near) primary (msg.Get tx key near)
 
@@ -218,12 +226,13 @@ after_optimistic_access s tx top block (command.Add k amount) key primary =
 after_optimistic_access s tx top block c key primary = after_known_access (with_touched s tx key) tx top block c
 
 abbrev pub after_new_access : NodeState → TxId → TopVer → Bool → Command → Key → NodeId → Mode → NodeState
-after_new_access s tx top block c key primary mode.Pessimistic = with_out (with_lock_asked s tx key primary) primary (msg.Lock tx top key)
+after_new_access s tx top block c key primary mode.Pessimistic =
+    with_out (with_lock_asked s tx key primary) primary (msg.Lock tx top key)
 after_new_access s tx top block c key primary mode.Optimistic = after_optimistic_access s tx top block c key primary
 
 -- how many keys a transaction may touch
 abbrev pub most_keys : ℕ
-most_keys = 64
+most_keys = TRANSACTION_KEYS
 
 -- a new key: too many of them, a primary that was seen to leave, or an access at the primary
 abbrev pub after_new_key : NodeState → TxId → TopVer → Bool → Command → Key → NodeId → TxEntry → NodeState
@@ -323,7 +332,8 @@ after_get_ok s tx key found = after_get_ok_of s tx key found (entry_of s tx)
 -- Prepared, PrepareFail, Finished, BackupFinished: the sender is no longer awaited in that phase.
 
 abbrev pub without_awaited : NodeState → TxId → NodeId → NodeState
-without_awaited s tx from = on_entry s tx (λ (e : TxEntry). record e { awaited = without_member node_cmp e.awaited from }) (entry_of s tx)
+without_awaited s tx from =
+    on_entry s tx (λ (e : TxEntry). record e { awaited = without_member node_cmp e.awaited from }) (entry_of s tx)
 
 abbrev pub after_prepared_in : NodeState → NodeId → TxId → TxState → NodeState
 after_prepared_in s from tx state.Preparing = without_awaited s tx from

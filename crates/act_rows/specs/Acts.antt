@@ -60,7 +60,8 @@ after_topology_message s from _ = s
 
 -- the messages between the parts of a primary, its backups, movers and readers
 abbrev pub after_holder_message : NodeState → NodeId → Message → NodeState
-after_holder_message s from (msg.BackupPrepare tx top shares primary writes) = after_backup_prepare s from tx top shares primary writes
+after_holder_message s from (msg.BackupPrepare tx top shares primary writes) =
+    after_backup_prepare s from tx top shares primary writes
 after_holder_message s from (msg.BackupPrepared tx) = after_backup_prepared s from tx
 after_holder_message s from (msg.BackupFinish tx primary commit) = after_backup_finish s from tx primary commit
 after_holder_message s from (msg.BackupFinished tx primary) = after_backup_finished s from tx primary
@@ -90,7 +91,8 @@ message_act s from m = let done = act_result (after_closing_rules (after_message
 
 -- what seeing an event brings beside its version: a loss ends waits and begins a recovery
 abbrev pub after_event_effects : NodeState → ℕ → TopoEvent → NodeState
-after_event_effects s place (topo.Left node) = after_left_at_searches (after_begin_round (after_left_at_primary (after_left_at_starter s node) node) place) node
+after_event_effects s place (topo.Left node) =
+    after_left_at_searches (after_begin_round (after_left_at_primary (after_left_at_starter s node) node) place) node
 after_event_effects s place _ = s
 
 -- a topology event is read, the one at this place

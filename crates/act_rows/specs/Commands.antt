@@ -124,11 +124,13 @@ after_command_in_transaction s tx block c (Some e) = after_command_of_entry s tx
 abbrev pub after_access_command : NodeState → ℕ → ℕ → Bool → Command → Option TxId → Bool → NodeState
 after_access_command s session started block c (Some tx) skipping = after_command_in_transaction s tx block c (entry_of s tx)
 after_access_command s session started block c None true = with_answer_ready s session answer.Skipped
-after_access_command s session started block c None false = after_open_tx s (next_tx s session started) mode.Pessimistic None false
+after_access_command s session started block c None false =
+    after_open_tx s (next_tx s session started) mode.Pessimistic None false
 
 -- the block whose fault was told is over
 abbrev pub after_skip_end : NodeState → ℕ → NodeState
-after_skip_end s session = on_session_state s session (λ (d : SessionState). record d { skipping = false; ready = Some answer.Skipped }) (session_state_of s session)
+after_skip_end s session =
+    on_session_state s session (λ (d : SessionState). record d { skipping = false; ready = Some answer.Skipped }) (session_state_of s session)
 
 -- commit, rollback and close: of the open transaction; skipped after a told fault; or of none
 abbrev pub after_end_command : NodeState → ℕ → Bool → Command → Option TxId → Bool → NodeState
@@ -137,21 +139,25 @@ after_end_command s session block c None true = after_skip_end s session
 after_end_command s session block c None false = with_answer_ready s session answer.NoTransaction
 
 abbrev pub after_sleep : NodeState → ℕ → ℕ → NodeState
-after_sleep s session n = on_session_state s session (λ (d : SessionState). record d { wake = Some (moment_after s.now n) }) (session_state_of s session)
+after_sleep s session n =
+    on_session_state s session (λ (d : SessionState). record d { wake = Some (moment_after s.now n) }) (session_state_of s session)
 
 -- a command, by what its session stands at: how many transactions it has started, whether a block is open or skipped, and
 -- its transaction
 abbrev pub after_command : NodeState → ℕ → ℕ → Bool → Bool → Option TxId → Command → NodeState
 after_command s session started block skipping tx (command.Begin mode timeout) = after_begin s session started mode timeout tx
 after_command s session started block skipping tx (command.Sleep n) = after_sleep s session n
-after_command s session started block skipping tx command.Commit = after_end_command s session block command.Commit tx skipping
-after_command s session started block skipping tx command.Rollback = after_end_command s session block command.Rollback tx skipping
+after_command s session started block skipping tx command.Commit =
+    after_end_command s session block command.Commit tx skipping
+after_command s session started block skipping tx command.Rollback =
+    after_end_command s session block command.Rollback tx skipping
 after_command s session started block skipping tx command.Close = after_end_command s session block command.Close tx skipping
 after_command s session started block skipping tx c = after_access_command s session started block c tx skipping
 
 -- the command waits for its answer
 abbrev pub with_pending : NodeState → ℕ → Command → NodeState
-with_pending s session c = on_session_state s session (λ (d : SessionState). record d { pending = Some c }) (session_state_of s session)
+with_pending s session c =
+    on_session_state s session (λ (d : SessionState). record d { pending = Some c }) (session_state_of s session)
 
 -- the command is noted and pending, and then its row is done
 abbrev pub after_take_command : NodeState → ℕ → SessionState → Option Command → NodeState
@@ -184,11 +190,13 @@ answer_to_give s d = answer_or_slept d.ready (answer_of_sleep s.now d.wake)
 
 -- the pending command is answered, and the session goes on in its script
 abbrev pub session_state_after_answer : Answer → SessionState → SessionState
-session_state_after_answer a d = record d { progress = (advance d.script d.progress a).progress; pending = None; wake = None; ready = None }
+session_state_after_answer a d =
+    record d { progress = (advance d.script d.progress a).progress; pending = None; wake = None; ready = None }
 
 abbrev pub after_hand_out : NodeState → ℕ → Option Answer → NodeState
 after_hand_out s session None = s
-after_hand_out s session (Some a) = with_note (on_session_state s session (session_state_after_answer a) (session_state_of s session)) (note.Answer session a)
+after_hand_out s session (Some a) =
+    with_note (on_session_state s session (session_state_after_answer a) (session_state_of s session)) (note.Answer session a)
 
 abbrev pub after_answer_of : NodeState → ℕ → Option SessionState → NodeState
 after_answer_of s session None = s

@@ -65,7 +65,8 @@ decision_outs s tx commit e =
 
 abbrev pub after_decide_of : NodeState → TxId → Bool → Option TxEntry → NodeState
 after_decide_of s tx commit None = s
-after_decide_of s tx commit (Some e) = with_outs (with_note (with_decision s tx commit) (note.Decide tx commit)) (decision_outs s tx commit e)
+after_decide_of s tx commit (Some e) =
+    with_outs (with_note (with_decision s tx commit) (note.Decide tx commit)) (decision_outs s tx commit e)
 
 -- the decision is noted, and all that hold something of the transaction are told
 abbrev pub after_decide : NodeState → TxId → Bool → NodeState
@@ -92,10 +93,12 @@ without_tx s tx = record s { txs = without tx_cmp s.txs tx }
 
 -- the session has no transaction any more, and is told the fault; further accesses of the block are skipped
 abbrev pub session_state_after_fault : Fault → Command → SessionState → SessionState
-session_state_after_fault f c d = record d { tx = None; block = false; skipping = d.block && not (is_block_end c); ready = Some (answer.Failed f) }
+session_state_after_fault f c d =
+    record d { tx = None; block = false; skipping = d.block && not (is_block_end c); ready = Some (answer.Failed f) }
 
 abbrev pub after_tell : NodeState → TxId → Fault → Command → NodeState
-after_tell s tx f c = let gone = without_tx s tx in on_session_state gone tx.session (session_state_after_fault f c) (session_state_of gone tx.session)
+after_tell s tx f c =
+    let gone = without_tx s tx in on_session_state gone tx.session (session_state_after_fault f c) (session_state_of gone tx.session)
 
 -- the fault is kept until a command asks for it
 abbrev pub with_fault_kept : NodeState → TxId → NodeState

@@ -109,7 +109,8 @@ abbrev pub all_installed : List Member → List NodeId → Bool
 all_installed members nodes = list_all (λ (m : Member). has node_cmp nodes m.node) members
 
 abbrev pub after_open_for_all : NodeState → TopVer → NodeState
-after_open_for_all s top = after_opens (with_outs (record s { exchange = None }) (outs_to (others_seen s) (msg.Opens top))) top
+after_open_for_all s top =
+    after_opens (with_outs (record s { exchange = None }) (outs_to (others_seen s) (msg.Opens top))) top
 
 -- once all members have installed the map they are told that the version is open
 abbrev pub after_open_if_all : NodeState → Option Exchange → NodeState
@@ -162,7 +163,8 @@ after_full s from m = if is_newer_map m s.installed then with_out (after_install
 
 abbrev pub after_count_installed : NodeState → NodeId → TopVer → Option Exchange → NodeState
 after_count_installed s from top None = s
-after_count_installed s from top (Some x) = if same_top x.top top then after_count s (record x { installed = with_member node_cmp x.installed from }) else s
+after_count_installed s from top (Some x) =
+    if same_top x.top top then after_count s (record x { installed = with_member node_cmp x.installed from }) else s
 
 -- Installed: counted where it speaks of the exchange in work
 abbrev pub after_installed : NodeState → NodeId → TopVer → NodeState

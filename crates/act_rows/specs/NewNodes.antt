@@ -29,7 +29,8 @@ with_session_if_on id number session_states session =
 -- the sessions on a node, by their numbers, the first of these having this number
 abbrev pub session_states_on : NodeId → ℕ → List (ℕ × SessionState) → List Session → List (ℕ × SessionState)
 session_states_on id number session_states [] = session_states
-session_states_on id number session_states (session ∷ more) = session_states_on id (capped number 1) (with_session_if_on id number session_states session) more
+session_states_on id number session_states (session ∷ more) =
+    session_states_on id (capped number 1) (with_session_if_on id number session_states session) more
 
 -- so many empty copies
 abbrev pub empty_copies : List Row → List Copy

@@ -58,7 +58,8 @@ candidate_of None = None
 candidate_of (Some (key, holder)) = Some (fail.Candidate key holder)
 
 abbrev pub changed_unless_same : Key → CacheVersion → CacheVersion → Option Fail → Option Fail
-changed_unless_same key had has moment_after = match_ordering (version_cmp had has) (Some (fail.Changed key had has)) moment_after (Some (fail.Changed key had has))
+changed_unless_same key had has moment_after =
+    match_ordering (version_cmp had has) (Some (fail.Changed key had has)) moment_after (Some (fail.Changed key had has))
 
 abbrev pub changed_at : Key → Option CacheVersion → CacheVersion → Option Fail → Option Fail
 changed_at key None has moment_after = moment_after
@@ -118,17 +119,22 @@ abbrev pub after_draw : NodeState → TxId → TopVer → List Share → List (K
 after_draw s tx top shares writes = after_begin_share (record s { order = last_drawn s.order writes }) tx top shares
     (drawn_writes top s.me s.order writes) (backups_for s shares)
 
-abbrev pub after_check : NodeState → NodeId → TxId → TopVer → List Share → List Wanted → List (Key × Option (List ℕ)) → Option Fail → NodeState
+abbrev pub after_check : NodeState → NodeId → TxId → TopVer → List Share → List Wanted → List (Key × Option (List ℕ)) →
+    Option Fail → NodeState
 after_check s from tx top shares wanted writes None = after_draw (after_own_each s tx top wanted) tx top shares writes
 after_check s from tx top shares wanted writes (Some why) = with_out s from (msg.PrepareFail tx why)
 
-abbrev pub after_prepare_in : NodeState → NodeId → TxId → TopVer → Mode → List Share → List Wanted → List (Key × Option (List ℕ)) → NodeState
+abbrev pub after_prepare_in : NodeState → NodeId → TxId → TopVer → Mode → List Share → List Wanted →
+    List (Key × Option (List ℕ)) → NodeState
 after_prepare_in s from tx top mode.Pessimistic shares wanted writes = after_draw s tx top shares writes
-after_prepare_in s from tx top mode.Optimistic shares wanted writes = after_check s from tx top shares wanted writes (failed_check s tx wanted)
+after_prepare_in s from tx top mode.Optimistic shares wanted writes =
+    after_check s from tx top shares wanted writes (failed_check s tx wanted)
 
 -- Prepare: a check and the locks in optimistic mode, the versions of the writes, and the share
-abbrev pub after_prepare : NodeState → NodeId → TxId → TopVer → Mode → List Share → List Wanted → List (Key × Option (List ℕ)) → NodeState
-after_prepare s from tx top mode shares wanted writes = after_prepare_in (after_forget s tx) from tx top mode shares wanted writes
+abbrev pub after_prepare : NodeState → NodeId → TxId → TopVer → Mode → List Share → List Wanted →
+    List (Key × Option (List ℕ)) → NodeState
+after_prepare s from tx top mode shares wanted writes =
+    after_prepare_in (after_forget s tx) from tx top mode shares wanted writes
 
 -- BackupPrepared counts while the share is Preparing
 abbrev pub after_backup_prepared_in : NodeState → NodeId → TxId → ShareState → NodeState
@@ -169,7 +175,8 @@ after_commit_share s from tx h nodes = with_outs
     (backup_finish_outs tx s.me true nodes ++ near_outs s tx h.writes)
 
 abbrev pub after_undo_share : NodeState → NodeId → TxId → List NodeId → NodeState
-after_undo_share s from tx nodes = with_outs (with_finish_begun s tx Undoing from nodes []) (backup_finish_outs tx s.me false nodes)
+after_undo_share s from tx nodes =
+    with_outs (with_finish_begun s tx Undoing from nodes []) (backup_finish_outs tx s.me false nodes)
 
 -- Finish where no finish is in work, by the share's state
 abbrev pub after_finish_in : NodeState → NodeId → TxId → Bool → OwnShare → ShareState → NodeState
@@ -206,7 +213,8 @@ after_backup_finished_of s from tx None = s
 after_backup_finished_of s from tx (Some h) = after_backup_finished_in s from tx h.askers
 
 abbrev pub after_backup_finished_at_primary : NodeState → NodeId → TxId → NodeId → NodeState
-after_backup_finished_at_primary s from tx primary = if same_node primary s.me then after_backup_finished_of s from tx (share_of s tx) else s
+after_backup_finished_at_primary s from tx primary =
+    if same_node primary s.me then after_backup_finished_of s from tx (share_of s tx) else s
 
 abbrev pub near_wait_cmp : NearWait → NearWait → Ordering
 near_wait_cmp a b = ordering_then (key_cmp a.key b.key) (node_cmp a.node b.node)
@@ -230,13 +238,16 @@ after_finished_share s tx _ = with_finish_ended s tx
 
 -- the end of a finish: the places are left, and each node that asked is told
 abbrev pub after_end_finish : NodeState → TxId → OwnShare → NodeState
-after_end_finish s tx h = with_outs (after_finished_share (after_release_all s tx) tx h.state) (outs_to h.askers (msg.Finished tx))
+after_end_finish s tx h =
+    with_outs (after_finished_share (after_release_all s tx) tx h.state) (outs_to h.askers (msg.Finished tx))
 
 -- the share is prepared, and its starter is told
 abbrev pub after_share_prepared : NodeState → TxId → NodeState
-after_share_prepared s tx = with_out (on_share s tx (λ (h : OwnShare). record h { state = Prepared }) (share_of s tx)) tx.node (msg.Prepared tx)
+after_share_prepared s tx =
+    with_out (on_share s tx (λ (h : OwnShare). record h { state = Prepared }) (share_of s tx)) tx.node (msg.Prepared tx)
 
-abbrev pub after_advance_share_in : NodeState → TxId → OwnShare → List NodeId → List NearWait → List NodeId → ShareState → NodeState
+abbrev pub after_advance_share_in : NodeState → TxId → OwnShare → List NodeId → List NearWait → List NodeId → ShareState →
+    NodeState
 after_advance_share_in s tx h [] [] (asker ∷ more) st = after_end_finish s tx h
 after_advance_share_in s tx h [] near [] Preparing = after_share_prepared s tx
 after_advance_share_in s tx h awaited near askers st = s
@@ -262,7 +273,9 @@ share_without_node node h = record h {
 
 abbrev pub after_left_at_shares : NodeState → NodeId → List TxId → NodeState
 after_left_at_shares s node [] = s
-after_left_at_shares s node (tx ∷ txs) = after_left_at_shares (on_share s tx (share_without_node node) (share_of s tx)) node txs
+after_left_at_shares s node (tx ∷ txs) =
+    after_left_at_shares (on_share s tx (share_without_node node) (share_of s tx)) node txs
 
 abbrev pub after_left_at_primary : NodeState → NodeId → NodeState
-after_left_at_primary s node = let here = after_left_at_shares s node (own_txs s) in record here { readers = without_reader here.readers node }
+after_left_at_primary s node =
+    let here = after_left_at_shares s node (own_txs s) in record here { readers = without_reader here.readers node }

@@ -57,7 +57,8 @@ with_backup_held me tx map_holders e =
     if same_tx e.0.tx tx then put share_cmp map_holders (record { holder = me; primary = e.0.primary }) e.1.state else map_holders
 
 -- the shares of a transaction that are held for other primaries, with their states
-abbrev pub held_backups_from : NodeId → TxId → List (Share × ShareState) → List (BackupName × BackupShare) → List (Share × ShareState)
+abbrev pub held_backups_from : NodeId → TxId → List (Share × ShareState) → List (BackupName × BackupShare) →
+    List (Share × ShareState)
 held_backups_from me tx map_holders [] = map_holders
 held_backups_from me tx map_holders (e ∷ es) = held_backups_from me tx (with_backup_held me tx map_holders e) es
 
@@ -173,11 +174,13 @@ abbrev pub finish_wait_cmp : FinishWait → FinishWait → Ordering
 finish_wait_cmp a b = ordering_then (tx_cmp a.tx b.tx) (node_cmp a.node b.node)
 
 abbrev pub backup_wait_cmp : BackupWait → BackupWait → Ordering
-backup_wait_cmp a b = ordering_then (tx_cmp a.tx b.tx) (ordering_then (node_cmp a.primary b.primary) (node_cmp a.holder b.holder))
+backup_wait_cmp a b =
+    ordering_then (tx_cmp a.tx b.tx) (ordering_then (node_cmp a.primary b.primary) (node_cmp a.holder b.holder))
 
 abbrev pub with_finish_waits : List FinishWait → TxId → List NodeId → List FinishWait
 with_finish_waits set tx [] = set
-with_finish_waits set tx (node ∷ nodes) = with_finish_waits (with_member finish_wait_cmp set (record { tx = tx; node = node })) tx nodes
+with_finish_waits set tx (node ∷ nodes) =
+    with_finish_waits (with_member finish_wait_cmp set (record { tx = tx; node = node })) tx nodes
 
 abbrev pub with_backup_waits : List BackupWait → TxId → List Share → List BackupWait
 with_backup_waits set tx [] = set
@@ -233,7 +236,8 @@ is_recoverer s r = is_node s.me (oldest_member r.members)
 
 abbrev pub after_recover_if_all : NodeState → Option Round → NodeState
 after_recover_if_all s None = s
-after_recover_if_all s (Some r) = if is_recoverer s r && not r.acted then after_recover_with s r (reports_for s.reports r.place) else s
+after_recover_if_all s (Some r) =
+    if is_recoverer s r && not r.acted then after_recover_with s r (reports_for s.reports r.place) else s
 
 abbrev pub with_report : NodeState → Report → NodeState
 with_report s r = record s { reports = s.reports ++ r ∷ [] }

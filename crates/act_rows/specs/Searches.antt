@@ -41,7 +41,8 @@ with_search s tx search =
 
 -- the first round asks every member for the waits of the transaction
 abbrev pub after_begin_search : NodeState → TxId → NodeState
-after_begin_search s tx = let members = node_set [] s.members in after_ask (with_search s tx (new_search members tx)) tx 1 (tx ∷ []) members
+after_begin_search s tx =
+    let members = node_set [] s.members in after_ask (with_search s tx (new_search members tx)) tx 1 (tx ∷ []) members
 
 abbrev pub after_expire_in : NodeState → TxId → TxState → NodeState
 after_expire_in s tx state.Waiting = after_begin_search s tx

@@ -183,4 +183,5 @@ with_near s key near = record s { near = put nat_cmp s.near key.cache near }
 
 -- makes the answer of a session's pending command ready
 abbrev pub with_answer_ready : NodeState → ℕ → Answer → NodeState
-with_answer_ready s session a = on_session_state s session (λ (d : SessionState). record d { ready = Some a }) (session_state_of s session)
+with_answer_ready s session a =
+    on_session_state s session (λ (d : SessionState). record d { ready = Some a }) (session_state_of s session)

@@ -16,7 +16,8 @@ is_number_text text = nat_le 1 (length text) && (nat_le (length text) 20 && list
 
 -- the number from `least` to `most` that the value is
 abbrev pub number_in_range : ℕ → ℕ → Text → Option ℕ
-number_in_range least most text = let n = digits_value 10 text in if is_number_text text && (nat_le least n && nat_le n most) then Some n else None
+number_in_range least most text =
+    let n = digits_value 10 text in if is_number_text text && (nat_le least n && nat_le n most) then Some n else None
 
 -- the same of an option, or what is meant where it does not stand
 abbrev pub number_or : ℕ → ℕ → ℕ → Option Text → Option ℕ

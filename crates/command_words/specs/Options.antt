@@ -46,7 +46,8 @@ value_in text = if list_any (λ b. b == 61) text then Some (after_first (λ b. b
 
 -- what the word `--name` or `--name=value` names, and the value in it; 45 is the hyphen
 abbrev pub option_in : Text → Option (Name × Option Text)
-option_in (a ∷ b ∷ rest) = if a == 45 && b == 45 then option_map (λ name. (name, value_in rest)) (named (before_first (λ b. b == 61) rest)) else None
+option_in (a ∷ b ∷ rest) =
+    if a == 45 && b == 45 then option_map (λ name. (name, value_in rest)) (named (before_first (λ b. b == 61) rest)) else None
 option_in _ = None
 
 -- ---- the words
@@ -87,4 +88,5 @@ is_end waiting word rest = not (is_some waiting) && (bytes_eq word (codes "--") 
 abbrev pub options : Given → Option Name → List Text → Option Given
 options given None [] = Some given
 options given (Some name) [] = None
-options given waiting (word ∷ rest) = if is_end waiting word rest then Some given else turn given waiting word >>= λ next. options next.0 next.1 rest
+options given waiting (word ∷ rest) =
+    if is_end waiting word rest then Some given else turn given waiting word >>= λ next. options next.0 next.1 rest

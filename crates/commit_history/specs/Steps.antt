@@ -112,7 +112,8 @@ walks_after_find m tx key f = if is_closed_in m tx then m
 
 abbrev pub walks_after_near_update : Walks → Option NodeId → Key → Found → Walks
 walks_after_near_update m None key f = m
-walks_after_near_update m (Some node) key f = record m { near = put node_cmp m.near node (put key_cmp (near_told_of m node) key f) }
+walks_after_near_update m (Some node) key f =
+    record m { near = put node_cmp m.near node (put key_cmp (near_told_of m node) key f) }
 
 abbrev pub walks_after_near_get : Walks → Option NodeId → TxId → Key → Found → Walks
 walks_after_near_get m to u key None = m
@@ -167,7 +168,8 @@ entry_of_line_if m all tx (Some l) = entry_of_line m tx l
 
 abbrev pub entry_of_home : Walks → List Group → TxId → Option NodeId → CommitEntry
 entry_of_home m all tx None = footprint all tx
-entry_of_home m all tx (Some home) = if same_node home tx.node then entry_of_line_if m all tx (session_line_of m tx.session) else footprint all tx
+entry_of_home m all tx (Some home) =
+    if same_node home tx.node then entry_of_line_if m all tx (session_line_of m tx.session) else footprint all tx
 
 abbrev pub entry_of_walks : List (ℕ × NodeId) → Walks → List Group → TxId → CommitEntry
 entry_of_walks nodes m all tx = entry_of_home m all tx (at nat_cmp nodes tx.session)

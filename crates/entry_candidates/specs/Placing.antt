@@ -13,7 +13,8 @@ use Rattle.std.specs.declared.cmp.Ordering.{Ordering}
 -- a place in a queue: whether it is one behind the owner; a transaction that owns the key and waits for it once more waits
 abbrev pub place_in_queue : List TxId → TxId → Option Bool
 place_in_queue [] tx = None
-place_in_queue (owner ∷ waiters) tx = if is_queued tx waiters then Some true else (if same_tx tx owner then Some false else None)
+place_in_queue (owner ∷ waiters) tx =
+    if is_queued tx waiters then Some true else (if same_tx tx owner then Some false else None)
 
 abbrev pub Places : Type 0
 Places = List (TxId × Table Key Bool)

@@ -7,6 +7,7 @@ ghost use Rattle.host_io.specs.ReadEnd.{EndsEarly, read_end_text};
 ghost use Rattle.host_io.specs.declared.source.ReadEnd.TheVariants.{Fault, NoMemory as WantOfMemory};
 
 use crate::failed::Failed;
+use ignite_types::limits::TEXT_BYTES;
 use ignite_types::NoMemory;
 use std::alloc::{AllocError, Global};
 use std::fmt;
@@ -90,7 +91,7 @@ const CHUNK: usize = 8192;
 pub const MAX_LIMIT: usize = 67_108_864;
 
 /// The limit of `read_all`, in bytes.
-pub const READ_ALL_LIMIT: usize = 1_048_576;
+pub const READ_ALL_LIMIT: usize = TEXT_BYTES;
 
 /// A buffer for one call of `take`.
 fn make_chunk(alloc: Global) -> Result<Vec<u8>, AllocError>

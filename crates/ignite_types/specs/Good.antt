@@ -3,6 +3,7 @@
 use Rattle.std.specs.Prelude.{ℕ, ◌+◌, Bool, true, false, not, ◌&&◌, ◌||◌, nat_le, ◌==◌, bytes_eq, codes, List, [], ◌∷◌, ◌++◌, length, filter, filter_map, flat_map, sum_by, slice_get, Option, Some, None, option_to_list}
 use Rattle.std.specs.List.{list_all, list_any}
 use Rattle.ignite_types.specs.Texts.{is_digit, is_letter, is_key_byte, is_value_byte}
+use Rattle.ignite_types.specs.declared.limits.TheConstants.{BACKUPS, CACHES, COMMANDS, MOMENTS, NAME_BYTES, NEAR_ENTRIES, NODES, NODE_NUMBERS, PARTITIONS, SESSIONS, STEPS, VALUE_BYTES}
 use Rattle.ignite_types.specs.declared.names.NodeId.{NodeId}
 use Rattle.ignite_types.specs.declared.text.Key.{Key}
 use Rattle.ignite_types.specs.declared.scenario.Cache.{Cache}
@@ -30,7 +31,7 @@ is_name_byte byte = is_letter byte || is_digit byte
 
 -- the name of a session or of a cache, or the bytes of an object
 abbrev pub is_name : List ℕ → Bool
-is_name bytes = is_text is_name_byte 16 bytes
+is_name bytes = is_text is_name_byte NAME_BYTES bytes
 
 -- no two of the elements are the same by the test
 abbrev pub are_distinct : {A : Type 0} → (A → A → Bool) → List A → Bool
@@ -50,7 +51,7 @@ abbrev pub is_started : Cache → Bool
 is_started cache = not cache.first && not cache.«data»
 
 abbrev pub good_cache : Cache → Bool
-good_cache cache = is_name cache.name && is_within 1 1024 cache.parts && nat_le cache.backups 3 && nat_le cache.near 10000
+good_cache cache = is_name cache.name && is_within 1 PARTITIONS cache.parts && nat_le cache.backups BACKUPS && nat_le cache.near NEAR_ENTRIES
 
 -- the caches of cache lines come first, then those of data lines, then the started ones
 abbrev pub in_order : List Cache → Bool
@@ -66,7 +67,7 @@ same_cache_name a b = bytes_eq a.name b.name
 abbrev pub good_caches : List Cache → Bool
 good_caches caches =
     list_all good_cache caches && in_order caches && list_any has_cache_line caches && are_distinct same_cache_name caches
-    && nat_le (length caches) 8 && nat_le (sum_by (λ cache. cache.parts) caches) 1024
+    && nat_le (length caches) CACHES && nat_le (sum_by (λ cache. cache.parts) caches) PARTITIONS
 
 -- format 1 has one cache, which is named `default`, and runs from the start
 abbrev pub is_default : List Cache → Bool
@@ -94,8 +95,8 @@ has_member all node = list_any (λ member. member.node.0 == node.0) all
 -- numbers from 1 to 99, each once, at most 16 of them over the run; a server has a line
 abbrev pub good_nodes : Scenario → Bool
 good_nodes s =
-    list_all (λ member. is_within 1 99 member.node.0) (members s) && are_distinct same_member_node (members s)
-    && nat_le (length (members s)) 16 && list_any (λ member. member.server) s.nodes
+    list_all (λ member. is_within 1 NODE_NUMBERS member.node.0) (members s) && are_distinct same_member_node (members s)
+    && nat_le (length (members s)) NODES && list_any (λ member. member.server) s.nodes
 
 abbrev pub no_moment_falls : List PlanStep → Bool
 no_moment_falls [] = true
@@ -147,7 +148,7 @@ good_starts caches started =
 -- at most 64 steps, at moments from 1 to 1000000 that do not fall
 abbrev pub good_plan : Scenario → Bool
 good_plan s =
-    nat_le (length s.plan) 64 && list_all (λ planned. is_within 1 1000000 planned.moment) s.plan && no_moment_falls s.plan
+    nat_le (length s.plan) STEPS && list_all (λ planned. is_within 1 MOMENTS planned.moment) s.plan && no_moment_falls s.plan
     && good_steps s.caches (members s) [] s.plan && good_starts s.caches (filter_map (λ planned. starting planned.step) s.plan)
 
 abbrev pub is_plain_cache : Option Cache → Bool
@@ -167,16 +168,16 @@ abbrev pub good_object : List Cache → Key → Bool
 good_object caches key = is_name key.text && is_data_cache (slice_get caches key.cache)
 
 abbrev pub good_value : List ℕ → Bool
-good_value value = is_text is_value_byte 64 value
+good_value value = is_text is_value_byte VALUE_BYTES value
 
 -- a timeout is at most 1000000, a sleep from 1 to 1000000; `Close` is never written
 abbrev pub good_command : List Cache → Command → Bool
-good_command caches (Begin mode timeout) = nat_le timeout 1000000
+good_command caches (Begin mode timeout) = nat_le timeout MOMENTS
 good_command caches (Get key) = good_key caches key
 good_command caches (Put key value) = good_key caches key && good_value value
 good_command caches (Remove key) = good_key caches key
 good_command caches (Add key number) = good_key caches key
-good_command caches (Sleep moments) = is_within 1 1000000 moments
+good_command caches (Sleep moments) = is_within 1 MOMENTS moments
 good_command caches Close = false
 good_command caches _ = true
 
@@ -206,7 +207,7 @@ good_blocks opened (item ∷ more) = (is_plain item || not opened) && good_block
 -- at most 1000 commands, on a node that has a line or joins
 abbrev pub good_session : List Cache → List Member → Session → Bool
 good_session caches all session =
-    is_name session.name && has_member all session.node && nat_le (length session.commands) 1000
+    is_name session.name && has_member all session.node && nat_le (length session.commands) COMMANDS
     && list_all (good_item caches) session.commands && good_blocks false session.commands
 
 -- what an object is
@@ -243,7 +244,7 @@ same_session_name a b = bytes_eq a.name b.name
 -- at most 64 sessions, with names of their own
 abbrev pub good_sessions : Scenario → Bool
 good_sessions s =
-    nat_le (length s.sessions) 64 && list_all (good_session s.caches (members s)) s.sessions && are_distinct same_session_name s.sessions
+    nat_le (length s.sessions) SESSIONS && list_all (good_session s.caches (members s)) s.sessions && are_distinct same_session_name s.sessions
     && good_kinds (filter_map object_of (flat_map (λ session. session.commands) s.sessions))
 
 -- whether a scenario is good

@@ -1,5 +1,6 @@
 -- What bytes are a key or a value, and the first fault of those that are none.
 use Rattle.std.specs.Prelude.{ℕ, Bool, not, ◌||◌, ◌&&◌, nat_le, ◌==◌, nat_lt, List, length, position, Option, Some, None, Result, Ok, Err, if◌then◌else◌}
+use Rattle.ignite_types.specs.declared.limits.TheConstants.{KEY_BYTES, VALUE_BYTES}
 use Rattle.ignite_types.specs.declared.text.Form.{Form}
 use Rattle.ignite_types.specs.declared.text.Form.TheVariants as form
 use Rattle.ignite_types.specs.declared.text.Key.{Key}
@@ -43,8 +44,8 @@ in_cache cache (Err fault) = Err fault
 
 -- the key of a cache with these bytes
 abbrev pub key_of : ℕ → List ℕ → Result Key TextFault
-key_of cache bytes = in_cache cache (text_of 32 is_key_byte bytes)
+key_of cache bytes = in_cache cache (text_of KEY_BYTES is_key_byte bytes)
 
 -- the value with these bytes
 abbrev pub value_of : List ℕ → Result (List ℕ) TextFault
-value_of bytes = text_of 64 is_value_byte bytes
+value_of bytes = text_of VALUE_BYTES is_value_byte bytes

@@ -3,6 +3,7 @@
 
 mod answer;
 mod journal;
+pub mod limits;
 mod list;
 mod memory;
 mod message;
@@ -23,4 +24,4 @@ pub use names::{CacheVersion, NodeId, TopVer, TxId};
 pub use placement::{PartMap, Row, Share, ShareState};
 pub use scenario::{Cache, Command, Item, Member, Mode, PlanStep, Scenario, Session, Step};
 pub use short_text::ShortText;
-pub use text::{KEY_BYTES, Key, TextFault, VALUE_BYTES, Value};
+pub use text::{Key, TextFault, Value};

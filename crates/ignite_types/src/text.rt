@@ -4,14 +4,9 @@ ghost use Rattle.std.specs.Prelude.{◌≡◌, ◌≤◌, length};
 ghost use Rattle.ignite_types.specs.Placement.{key_hash};
 ghost use Rattle.ignite_types.specs.Texts.{allows, first_bad, text_of, key_of, value_of};
 
+use crate::limits::{KEY_BYTES, VALUE_BYTES};
 use crate::short_text::ShortText;
 use std::marker::Model;
-
-/// The most bytes that a key may have.
-pub const KEY_BYTES: usize = 32;
-
-/// The most bytes that a value may have.
-pub const VALUE_BYTES: usize = 64;
 
 /// A key: a cache's number and at most 32 bytes. Compared by the number, then by the bytes.
 #[derive(Clone, Copy, Debug, PartialEq, Eq, PartialOrd, Ord, Hash)]

@@ -61,7 +61,8 @@ told_of_applied j maps tx before w (Some c) a = not (is_told_committed (closing 
 
 -- a transaction is told committed only when its writes are applied at each live holder
 abbrev pub told_when_applied : Journal → Bool
-told_when_applied j = let maps = maps_installed j.scenario (noted j.scenario j.groups) in each_answer (told_of_applied j maps) j
+told_when_applied j =
+    let maps = maps_installed j.scenario (noted j.scenario j.groups) in each_answer (told_of_applied j maps) j
 
 -- what is committed is applied whole, before it is told and before its locks are free
 abbrev pub full_sync : Journal → Bool

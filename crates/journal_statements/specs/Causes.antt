@@ -124,7 +124,8 @@ row_fits maps tx before w c answer.Skipped = skips w c
 row_fits maps tx before w c answer.RolledBack = rolls_back tx before w c
 row_fits maps tx before w c answer.NotNumber =
     is_plain_answer maps tx before w c && is_access c && access_fits w c answer.NotNumber
-row_fits maps tx before w c answer.Overflow = is_plain_answer maps tx before w c && is_access c && access_fits w c answer.Overflow
+row_fits maps tx before w c answer.Overflow =
+    is_plain_answer maps tx before w c && is_access c && access_fits w c answer.Overflow
 row_fits maps tx before w c a = is_plain_answer maps tx before w c && is_ok c a && access_fits w c a
 
 abbrev pub answer_fits : List PartMap → TxId → List Noted → Walk → Option Command → Answer → Bool

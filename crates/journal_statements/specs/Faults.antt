@@ -103,7 +103,8 @@ cut_fits j tx before id = is_lost before id
     && search_awaits id (search_by j.scenario (topology_events j.scenario j.groups) tx before)
 
 abbrev pub fault_fits : Journal → List PartMap → TxId → List Noted → Walk → Fault → Bool
-fault_fits j maps tx before w (fault.Check why) = check_fails j tx w before why (primary_in (map_for maps w) (key_of_fail why))
+fault_fits j maps tx before w (fault.Check why) =
+    check_fails j tx w before why (primary_in (map_for maps w) (key_of_fail why))
 fault_fits j maps tx before w fault.Deadlock = is_timed_out tx before && has_true_report j tx before
 fault_fits j maps tx before w (fault.Cut id) = is_timed_out tx before && cut_fits j tx before id
 fault_fits j maps tx before w fault.Timeout = is_timed_out tx before && timeout_fits j maps tx before

@@ -24,5 +24,6 @@ is_serial j = is_read_whole (serial (commits_of j))
 -- transaction has one version, and none opens before the older ones have ended; what is committed is applied whole at all live
 -- holders; deadlock reports are true; links keep order; maps are the next maps; and each answer has its cause.
 abbrev pub headline : Journal → Bool
-headline j = is_serial j && commits_stand j && answers_told j && one_version j && drained j && full_sync j && copies j && one_holder j
+headline j =
+    is_serial j && commits_stand j && answers_told j && one_version j && drained j && full_sync j && copies j && one_holder j
     && deadlocks_true j && links j && maps j && causes j

@@ -80,7 +80,8 @@ linked_at plan before (Some who) r = not (is_lost before who) && delivery_fits p
 
 -- each message taken is the next one sent on its link, which is not held, and nothing comes from or at a lost node
 abbrev pub links : Journal → Bool
-links j = each_record (λ (before : List Noted) (n : Noted). linked_at j.scenario.plan before n.node n.rec) (noted j.scenario j.groups)
+links j =
+    each_record (λ (before : List Noted) (n : Noted). linked_at j.scenario.plan before n.node n.rec) (noted j.scenario j.groups)
 
 -- A link that keeps a message back.
 

@@ -71,7 +71,8 @@ map_fits scenario ts before m None = is_new_map scenario before m (topology_of t
 map_fits scenario ts before m (Some there) = same_map m there
 
 abbrev pub install_fits : Scenario → List Topology → List Noted → Rec → Bool
-install_fits scenario ts before (note.Install m) = map_fits scenario ts before m (map_of_version (maps_installed scenario before) m.top)
+install_fits scenario ts before (note.Install m) =
+    map_fits scenario ts before m (map_of_version (maps_installed scenario before) m.top)
 install_fits scenario ts before r = true
 
 -- a partition of the opening map has an owner exactly where its cache runs from the start

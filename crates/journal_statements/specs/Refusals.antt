@@ -67,4 +67,5 @@ refusal_fits scenario before r = true
 
 -- a plan step is refused exactly where it has to be
 abbrev pub refusals_fit : Journal → Bool
-refusals_fit j = each_record (λ (before : List Noted) (n : Noted). refusal_fits j.scenario before n.rec) (noted j.scenario j.groups)
+refusals_fit j =
+    each_record (λ (before : List Noted) (n : Noted). refusal_fits j.scenario before n.rec) (noted j.scenario j.groups)

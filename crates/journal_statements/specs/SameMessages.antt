@@ -64,7 +64,8 @@ abbrev pub same_stored : Stored → Stored → Bool
 same_stored a b = same_key a.key b.key && same_maybe same_text a.value b.value && same_cache_version a.ver b.ver
 
 abbrev pub same_fail : Fail → Fail → Bool
-same_fail (fail.Changed key had there) (fail.Changed k d s) = same_key key k && same_cache_version had d && same_cache_version there s
+same_fail (fail.Changed key had there) (fail.Changed k d s) =
+    same_key key k && same_cache_version had d && same_cache_version there s
 same_fail (fail.Candidate key holder) (fail.Candidate k h) = same_key key k && same_tx holder h
 same_fail _ _ = false
 

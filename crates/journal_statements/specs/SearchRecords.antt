@@ -71,7 +71,8 @@ sought_over scenario events tx s (r ∷ rs) = sought_over scenario events tx (so
 
 -- the transaction's search behind these records
 abbrev pub search_by : Scenario → List TopoEvent → TxId → List Noted → Option Search
-search_by scenario events tx recs = (sought_over scenario events tx (record { read = 0; search = None }) (recs_of tx.node recs)).search
+search_by scenario events tx recs =
+    (sought_over scenario events tx (record { read = 0; search = None }) (recs_of tx.node recs)).search
 
 -- its last round awaits this node's answer
 abbrev pub search_awaits : NodeId → Option Search → Bool

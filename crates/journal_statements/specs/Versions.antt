@@ -29,7 +29,8 @@ has_opened node top n = is_node node n.node && is_opened_in top n.rec
 
 -- the version was open at the node: it opened there, or it is the first one at an initial node
 abbrev pub was_open : Scenario → List Noted → NodeId → TopVer → Bool
-was_open scenario before node top = (same_top top first_top && is_member scenario.nodes node) || list_any (has_opened node top) before
+was_open scenario before node top =
+    (same_top top first_top && is_member scenario.nodes node) || list_any (has_opened node top) before
 
 abbrev pub is_same_version : TopVer → Option TopVer → Bool
 is_same_version top None = false
@@ -48,7 +49,8 @@ one_version_at scenario before r = true
 -- a transaction has at most one Start, whose version was open at its starter; its grants and applies name that version and
 -- stand behind the Start, and so does a commit decision
 abbrev pub one_version : Journal → Bool
-one_version j = each_record (λ (before : List Noted) (n : Noted). one_version_at j.scenario before n.rec) (noted j.scenario j.groups)
+one_version j =
+    each_record (λ (before : List Noted) (n : Noted). one_version_at j.scenario before n.rec) (noted j.scenario j.groups)
 
 -- Drained.
 
@@ -99,7 +101,8 @@ is_not_older_tx before None = true
 is_not_older_tx before (Some top) = is_not_older before top
 
 abbrev pub drained_at : Journal → List PartMap → List Noted → Rec → Bool
-drained_at j maps before (note.Opened top) = list_any (same_top top) (opened_before before) || list_all (older_ended j maps before top) (started_txs before)
+drained_at j maps before (note.Opened top) =
+    list_any (same_top top) (opened_before before) || list_all (older_ended j maps before top) (started_txs before)
 drained_at j maps before (note.Start tx top) = is_not_older before top
 drained_at j maps before (note.Grant tx top key) = is_not_older before top
 drained_at j maps before (note.Apply tx top primary key new ver) = is_not_older before top

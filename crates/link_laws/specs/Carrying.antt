@@ -57,7 +57,8 @@ pub record InboxCarries (plan : List PlanStep) (recs : List Noted) (to : NodeId)
 
 -- a node's number stands at one place only
 abbrev pub NodesApart : List Part → Type 0
-NodesApart parts = (j k : ℕ) (p q : Part) → slice_get parts j ≡ Some p → slice_get parts k ≡ Some q → same_node p.node.me q.node.me ≡ true → j ≡ k
+NodesApart parts =
+    (j k : ℕ) (p q : Part) → slice_get parts j ≡ Some p → slice_get parts k ≡ Some q → same_node p.node.me q.node.me ≡ true → j ≡ k
 
 -- those who join by these steps
 abbrev pub joiners : List PlanStep → List Member

@@ -40,7 +40,8 @@ pub record KeepsOwnersMatch (before after : NodeState) : Type 0 where
 
 -- an act goes on telling of the queues, and each of its grants fits
 abbrev pub ActKeepsOwnersMatch : NodeState → Acted → Type 0
-ActKeepsOwnersMatch s act = (recs : List Rec) → OwnersMatch recs s.queues → OwnersMatch (recs ++ act.recs) act.state.queues × GrantsFit recs act.recs
+ActKeepsOwnersMatch s act =
+    (recs : List Rec) → OwnersMatch recs s.queues → OwnersMatch (recs ++ act.recs) act.state.queues × GrantsFit recs act.recs
 
 -- the records of each part tell of its queues
 abbrev pub AllOwnersMatch : List Noted → List Part → Type 0

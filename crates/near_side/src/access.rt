@@ -10,14 +10,12 @@ use crate::nears::{near_entry, near_of, put_near, with_front};
 use crate::preparing::commit;
 use crate::values::{access_key, answer_of};
 use part_model::NearEntry;
+use ignite_types::limits::TRANSACTION_KEYS;
 use ignite_types::{Answer, Command, Fault, Key, Mem, Message, Mode, NodeId, TopVer, TxId, Value};
 use node_state::Read;
 use node_steps::Node;
 use session_scripts::added;
 use tx_decisions::{decide, fail};
-
-/// The most keys that a transaction may touch.
-const MOST_KEYS: usize = 64;
 
 /// An access is done: in a block it is answered, a bare one is committed first.
 fn access_done(node: &mut Node, tx: TxId, top: TopVer, block: bool, answer: &Answer) -> Mem<()>
@@ -204,7 +202,7 @@ fn access(
     };
     if entry.keys.contains(key) {
         do_known(node, tx, top, block, command)
-    } else if MOST_KEYS <= entry.keys.len() {
+    } else if TRANSACTION_KEYS <= entry.keys.len() {
         access_refused(node, tx, block, &Answer::TooManyKeys)
     } else if node.is_live(primary) {
         let mode = entry.mode;

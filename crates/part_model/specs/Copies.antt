@@ -5,6 +5,7 @@ use Rattle.part_model.specs.Orders.{is_less, is_lower}
 use Rattle.part_model.specs.Tables.{keys_where, without_each}
 use Rattle.part_model.specs.declared.copies.Entry.{Entry}
 use Rattle.ignite_types.specs.Names.{key_cmp}
+use Rattle.ignite_types.specs.declared.limits.TheConstants.{BATCH_ENTRIES}
 use Rattle.ignite_types.specs.declared.list.List.{List}
 use Rattle.ignite_types.specs.declared.message.Stored.{Stored}
 use Rattle.ignite_types.specs.declared.names.CacheVersion.{CacheVersion}
@@ -39,7 +40,8 @@ with_kept copy write false None = without key_cmp copy write.key
 -- a write replaces an entry whose version is not higher
 abbrev pub with_kept_over : Copy → Stored → Bool → Option Entry → Copy
 with_kept_over copy write filling None = with_kept copy write filling write.value
-with_kept_over copy write filling (Some entry) = if is_lower write.ver entry.ver then copy else with_kept copy write filling write.value
+with_kept_over copy write filling (Some entry) =
+    if is_lower write.ver entry.ver then copy else with_kept copy write filling write.value
 
 abbrev pub copy_after_write : Copy → Stored → Bool → Copy
 copy_after_write copy write filling = with_kept_over copy write filling (at key_cmp copy write.key)
@@ -63,7 +65,7 @@ values_after copy after = filter (λ (e : Stored). is_some e.value && is_after a
 
 -- how many entries a batch has at most
 abbrev pub batch_size : ℕ
-batch_size = 16
+batch_size = BATCH_ENTRIES
 
 -- the next values after a key, at most so many
 abbrev pub batch_of : Copy → Option Key → ℕ → List Stored
@@ -82,7 +84,8 @@ with_supplied_over copy entry (Some there) = if is_lower there.ver entry.ver
 
 abbrev pub copy_after_supply : Copy → List Stored → Copy
 copy_after_supply copy [] = copy
-copy_after_supply copy (entry ∷ entries) = copy_after_supply (with_supplied_over copy entry (at key_cmp copy entry.key)) entries
+copy_after_supply copy (entry ∷ entries) =
+    copy_after_supply (with_supplied_over copy entry (at key_cmp copy entry.key)) entries
 
 abbrev pub is_tombstone : Key × Entry → Bool
 is_tombstone e = is_none e.1.value

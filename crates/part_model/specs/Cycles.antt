@@ -23,7 +23,8 @@ with_edge edges edge = if list_any (same_edge edge) edges then edges else edges 
 -- the waits of one answer, in its order
 abbrev pub with_waits : List Edge → NodeId → ℕ → List Wait → List Edge
 with_waits edges node act [] = edges
-with_waits edges node act (wait ∷ waits) = with_waits (with_edge edges (record { node = node; act = act; wait = wait })) node act waits
+with_waits edges node act (wait ∷ waits) =
+    with_waits (with_edge edges (record { node = node; act = act; wait = wait })) node act waits
 
 -- a descent through waits: the way back to the transaction, if one was found, and the transactions that were entered
 pub record Descent : Type 0 where
@@ -49,7 +50,8 @@ way_along deeper tx edge entered =
     way_into_holder deeper edge entered (same_tx edge.wait.holder tx) (has tx_cmp entered edge.wait.holder)
 
 abbrev pub way_through : (List TxId → TxId → Descent) → TxId → TxId → List TxId → Edge → Descent
-way_through deeper tx at_tx entered edge = if same_tx edge.wait.waiter at_tx then way_along deeper tx edge entered else no_way entered
+way_through deeper tx at_tx entered edge =
+    if same_tx edge.wait.waiter at_tx then way_along deeper tx edge entered else no_way entered
 
 -- a way that was found, or else what comes later
 abbrev pub way_or_later : List TxId → Option (List Edge) → (List TxId → Descent) → Descent
@@ -67,7 +69,8 @@ way_through_each deeper tx at_tx entered (edge ∷ edges) =
 
 abbrev pub way_down : ℕ → TxId → List Edge → List TxId → TxId → Descent
 way_down zero tx edges entered at_tx = no_way entered
-way_down (suc depth) tx edges entered at_tx = way_through_each (λ now_entered holder. way_down depth tx edges now_entered holder) tx at_tx entered edges
+way_down (suc depth) tx edges entered at_tx =
+    way_through_each (λ now_entered holder. way_down depth tx edges now_entered holder) tx at_tx entered edges
 
 -- the first cycle through the transaction, its edges in order
 abbrev pub cycle_through : TxId → List Edge → Option (List Edge)

@@ -24,4 +24,5 @@ with_one_done counts top = with_count counts top (count_of counts top - 1)
 
 -- how much is open of versions below this one
 abbrev pub count_below : DrainCount → TopVer → ℕ
-count_below counts top = fold (λ (n : ℕ) (e : TopVer × ℕ). if is_lower_top e.0 top then min (n + e.1) (2 ^ 64 - 1) else n) 0 counts
+count_below counts top =
+    fold (λ (n : ℕ) (e : TopVer × ℕ). if is_lower_top e.0 top then min (n + e.1) (2 ^ 64 - 1) else n) 0 counts

@@ -154,7 +154,8 @@ unless_used_up range = if int_le range.next range.last then Some range else None
 
 -- the numbers that are left for an item that needs no command then
 abbrev pub numbers_left_for : Item → Ranges → Option (Key × Range)
-numbers_left_for (item.Next object) ranges = option_map (λ (range : Range). (object, range)) (option_and_then unless_used_up (at key_cmp ranges object))
+numbers_left_for (item.Next object) ranges =
+    option_map (λ (range : Range). (object, range)) (option_and_then unless_used_up (at key_cmp ranges object))
 numbers_left_for _ ranges = None
 
 -- Progress.
@@ -187,7 +188,8 @@ advance_of_number p said (Some left) later = later (progress_after_number p left
 -- the items that need no command are passed over
 abbrev pub advance_past_numbers : List Item → Progress → List Told → Advance
 advance_past_numbers [] p said = record { progress = p; told = said }
-advance_past_numbers (item ∷ items) p said = advance_of_number p said (numbers_left_for item p.ranges) (λ next now_said. advance_past_numbers items next now_said)
+advance_past_numbers (item ∷ items) p said =
+    advance_of_number p said (numbers_left_for item p.ranges) (λ next now_said. advance_past_numbers items next now_said)
 
 abbrev pub advance_past_item : List Item → Progress → Item → Answer → Option Told → Advance
 advance_past_item script p item a None = record { progress = record p { phase = phase_after item p.phase a }; told = [] }

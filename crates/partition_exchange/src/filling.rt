@@ -7,14 +7,12 @@ ghost use Rattle.part_model.specs.Copies.{batch_of, batch_size, copy_after_suppl
 ghost use Rattle.partition_exchange.specs.Movers.{all_claim, has_mover};
 
 use crate::opening::rows;
+use ignite_types::limits::BATCH_ENTRIES;
 use ignite_types::{Key, List, Mem, Message, NodeId, Row, Stored, TopVer};
 use node_state::{Claim, Store};
 use node_steps::{Node, drop_tombstones, has_node, next_batch, supply};
 use std::alloc::Global;
 use std::mem;
-
-/// How many entries a batch has at most.
-const BATCH_SIZE: usize = 16;
 
 /// The next entries of a partition's copy after a key, and whether no value stands after them.
 fn batch_at(node: &Node, part: u32, after: Option<Key>) -> Mem<(List<Stored>, bool)>
@@ -22,7 +20,7 @@ fn batch_at(node: &Node, part: u32, after: Option<Key>) -> Mem<(List<Stored>, bo
     ensures last { IfOk result (λ r. r.1 ≡ is_last_batch (copy_at node.now.stores part) after batch_size) }
 {
     match node.state.stores.get(part as usize) {
-        Some(store) => next_batch(node.alloc, store, after, BATCH_SIZE),
+        Some(store) => next_batch(node.alloc, store, after, BATCH_ENTRIES),
         None => Ok((List::new(node.alloc), true)),
     }
 }

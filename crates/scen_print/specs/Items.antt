@@ -18,7 +18,8 @@ cache_text (Some cache) = cache.name ++ codes "/"
 
 -- a key: its bytes, in format 2 behind its cache's name and a slash
 abbrev pub key_text : Scenario → Key → List ℕ
-key_text scenario key = if scenario.format == 2 then cache_text (slice_get scenario.caches key.cache) ++ key.text else key.text
+key_text scenario key =
+    if scenario.format == 2 then cache_text (slice_get scenario.caches key.cache) ++ key.text else key.text
 
 abbrev pub mode_text : Mode → List ℕ
 mode_text Pessimistic = codes "pessimistic"

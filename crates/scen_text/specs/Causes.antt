@@ -54,7 +54,8 @@ past_text _ = []
 
 -- the line that a program prints for a refusal
 abbrev pub refusal_text : ℕ → Cause → List ℕ
-refusal_text line cause = codes "refused line " ++ decimal line ++ codes ": " ++ cause_text cause ++ past_text cause ++ (10 ∷ [])
+refusal_text line cause =
+    codes "refused line " ++ decimal line ++ codes ": " ++ cause_text cause ++ past_text cause ++ (10 ∷ [])
 
 -- a rule that must hold, or the cause of the refusal
 abbrev pub rule : Bool → Cause → Result (Unit {0}) Cause

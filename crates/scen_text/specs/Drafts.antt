@@ -3,6 +3,7 @@
 use Rattle.std.specs.Prelude.{ℕ, ◌+◌, Bool, true, false, ◌&&◌, not, ◌==◌, nat_lt, nat_le, List, [], ◌∷◌, ◌++◌, length, Option, Some, None, Result, Ok, Err, if◌then◌else◌}
 use Rattle.std.specs.Option.{unwrap_or}
 use Rattle.ignite_types.specs.Good.{has_member, is_within}
+use Rattle.ignite_types.specs.declared.limits.TheConstants.{CACHES, COMMANDS, MOMENTS, NODES, NODE_NUMBERS, PARTITIONS, SESSIONS, STEPS}
 use Rattle.ignite_types.specs.declared.names.NodeId.{NodeId}
 use Rattle.ignite_types.specs.declared.text.Key.{Key}
 use Rattle.ignite_types.specs.declared.scenario.Command.{Command}
@@ -76,7 +77,7 @@ with_setting draft setting n = do
 -- the partitions of all caches and so many more, where one more cache has room
 abbrev pub total_with : Draft → ℕ → Result ℕ Cause
 total_with draft parts =
-    if nat_lt (length draft.caches) 8 && nat_le (draft.partitions + parts) 1024 then Ok (draft.partitions + parts) else Err (Limit what.Caches)
+    if nat_lt (length draft.caches) CACHES && nat_le (draft.partitions + parts) PARTITIONS then Ok (draft.partitions + parts) else Err (Limit what.Caches)
 
 -- a cache, or a data cache
 abbrev pub with_cache : Draft → Bool → CacheWords → Result Draft Cause
@@ -91,24 +92,25 @@ with_cache draft is_data words = do
 abbrev pub draft_with_member : Draft → Member → Result Draft Cause
 draft_with_member draft member = do
   _ ← rule (may_follow draft.place place.Nodes) Syntax
-  _ ← rule (is_within 1 99 member.node.0) (Limit (member_what member.server))
-  _ ← rule (nat_lt (length draft.members) 16) (Limit what.Nodes)
+  _ ← rule (is_within 1 NODE_NUMBERS member.node.0) (Limit (member_what member.server))
+  _ ← rule (nat_lt (length draft.members) NODES) (Limit what.Nodes)
   _ ← rule (not (has_member draft.members member.node)) DoubleName
   Ok (record draft { place = place.Nodes; nodes = draft.nodes ++ member ∷ []; members = draft.members ++ member ∷ [] })
 
 -- one more step of the plan
 abbrev pub draft_with_step : Draft → ℕ → Step → Draft
-draft_with_step draft moment s = record draft { place = place.Plan; plan = draft.plan ++ record { moment = moment; step = s } ∷ [] }
+draft_with_step draft moment s =
+    record draft { place = place.Plan; plan = draft.plan ++ record { moment = moment; step = s } ∷ [] }
 
 -- a step by which a node joins
 abbrev pub with_join : Draft → ℕ → Member → Result Draft Cause
 with_join draft moment member = do
   _ ← rule (may_follow draft.place place.Plan) Syntax
-  _ ← rule (is_within 1 1000000 moment) (Limit what.Moment)
-  _ ← rule (is_within 1 99 member.node.0) (Limit what.Plan)
+  _ ← rule (is_within 1 MOMENTS moment) (Limit what.Moment)
+  _ ← rule (is_within 1 NODE_NUMBERS member.node.0) (Limit what.Plan)
   _ ← rule (rises draft.plan moment) (Limit what.Moment)
-  _ ← rule (nat_lt (length draft.members) 16) (Limit what.Nodes)
-  _ ← rule (nat_lt (length draft.plan) 64) (Limit what.Steps)
+  _ ← rule (nat_lt (length draft.members) NODES) (Limit what.Nodes)
+  _ ← rule (nat_lt (length draft.plan) STEPS) (Limit what.Steps)
   _ ← rule (not (has_member draft.members member.node)) DoubleName
   Ok (draft_with_step (record draft { members = draft.members ++ member ∷ [] }) moment (step.Join member))
 
@@ -123,10 +125,10 @@ nodes_named named _ = true
 abbrev pub with_links : Draft → ℕ → Step → Result Draft Cause
 with_links draft moment s = do
   _ ← rule (may_follow draft.place place.Plan) Syntax
-  _ ← rule (is_within 1 1000000 moment) (Limit what.Moment)
+  _ ← rule (is_within 1 MOMENTS moment) (Limit what.Moment)
   _ ← rule (nodes_fit s) (Limit what.Plan)
   _ ← rule (rises draft.plan moment) (Limit what.Moment)
-  _ ← rule (nat_lt (length draft.plan) 64) (Limit what.Steps)
+  _ ← rule (nat_lt (length draft.plan) STEPS) (Limit what.Steps)
   _ ← rule (nodes_named draft.named s) NoSuchNode
   Ok (draft_with_step draft moment s)
 
@@ -134,10 +136,10 @@ with_links draft moment s = do
 abbrev pub with_start : Draft → ℕ → CacheWords → Result Draft Cause
 with_start draft moment words = do
   _ ← rule (may_follow draft.place place.Plan && not (names_data_here draft.caches words.name)) Syntax
-  _ ← rule (is_within 1 1000000 moment) (Limit what.Moment)
+  _ ← rule (is_within 1 MOMENTS moment) (Limit what.Moment)
   cache ← cache_of what.Plan false false words
   _ ← rule (rises draft.plan moment) (Limit what.Moment)
-  _ ← rule (nat_lt (length draft.plan) 64) (Limit what.Steps)
+  _ ← rule (nat_lt (length draft.plan) STEPS) (Limit what.Steps)
   total ← total_with draft cache.parts
   _ ← rule (not (has_cache draft.caches cache.name)) DoubleName
   Ok (draft_with_step (record draft { caches = draft.caches ++ cache ∷ []; partitions = total }) moment (step.Start (length draft.caches)))
@@ -146,10 +148,10 @@ with_start draft moment words = do
 abbrev pub with_stop : Draft → ℕ → Option (List ℕ) → Result Draft Cause
 with_stop draft moment name = do
   _ ← rule (may_follow draft.place place.Plan && not (names_data_here draft.caches name) && not (names_first draft.caches name)) Syntax
-  _ ← rule (is_within 1 1000000 moment) (Limit what.Moment)
+  _ ← rule (is_within 1 MOMENTS moment) (Limit what.Moment)
   called ← fit name what.Name
   _ ← rule (rises draft.plan moment) (Limit what.Moment)
-  _ ← rule (nat_lt (length draft.plan) 64) (Limit what.Steps)
+  _ ← rule (nat_lt (length draft.plan) STEPS) (Limit what.Steps)
   number ← known_cache (place_named draft.caches (Some called))
   _ ← rule (not (is_stopped draft.plan number)) DoubleName
   Ok (draft_with_step draft moment (step.Stop number))
@@ -159,8 +161,8 @@ abbrev pub with_session : Draft → Option (List ℕ) → NodeId → Result Draf
 with_session draft name node = do
   _ ← rule (may_follow draft.place place.Sessions) Syntax
   called ← fit name what.Name
-  _ ← rule (is_within 1 99 node.0) (Limit what.Session)
-  _ ← rule (nat_lt (length draft.sessions) 64) (Limit what.Sessions)
+  _ ← rule (is_within 1 NODE_NUMBERS node.0) (Limit what.Session)
+  _ ← rule (nat_lt (length draft.sessions) SESSIONS) (Limit what.Sessions)
   _ ← rule (is_named draft.named node) NoSuchNode
   _ ← rule (not (has_session draft.sessions called)) DoubleName
   Ok (record draft { place = place.Script; session = record { name = called; node = node; commands = [] } })
@@ -171,7 +173,7 @@ with_item draft item =
     record draft { place = place_after draft.place item; session = record draft.session { commands = draft.session.commands ++ item ∷ [] } }
 
 abbrev pub has_room : Draft → Bool
-has_room draft = nat_lt (length draft.session.commands) 1000
+has_room draft = nat_lt (length draft.session.commands) COMMANDS
 
 -- a command without a key
 abbrev pub with_bare : Draft → Command → Result Draft Cause
@@ -190,7 +192,8 @@ verb_stands draft None place key = in_script draft.place && not (names_data_here
 
 -- the first command that names an object says what it is
 abbrev pub with_object : Draft → Key → Option Kind → Draft
-with_object draft key (Some kind) = if has_object draft.objects key then draft else record draft { objects = draft.objects ++ (key, kind) ∷ [] }
+with_object draft key (Some kind) =
+    if has_object draft.objects key then draft else record draft { objects = draft.objects ++ (key, kind) ∷ [] }
 with_object draft key None = draft
 
 -- a command with a key

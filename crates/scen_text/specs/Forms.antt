@@ -25,7 +25,8 @@ node_of_word word = number_of_word word >>= λ n. Ok (record { 0 = n })
 
 -- whether the word is `server`; the other word is `client`
 abbrev pub role : List ℕ → Result Bool Cause
-role word = if bytes_eq word (codes "server") then Ok true else (if bytes_eq word (codes "client") then Ok false else Err Syntax)
+role word =
+    if bytes_eq word (codes "server") then Ok true else (if bytes_eq word (codes "client") then Ok false else Err Syntax)
 
 abbrev pub mode : List ℕ → Result Mode Cause
 mode word =

@@ -44,7 +44,8 @@ same_object_kind _ _ = false
 
 -- the object is known to be of another kind
 abbrev pub is_other : List (Key × Kind) → Key → Kind → Bool
-is_other objects key kind = list_any (λ known_cache. same_object known_cache.0 key && not (same_object_kind known_cache.1 kind)) objects
+is_other objects key kind =
+    list_any (λ known_cache. same_object known_cache.0 key && not (same_object_kind known_cache.1 kind)) objects
 
 -- the object's kind is known
 abbrev pub has_object : List (Key × Kind) → Key → Bool

@@ -1,6 +1,7 @@
 -- The limits of the numbers of a scenario, and what a line makes of its words.
 use Rattle.std.specs.Prelude.{ℕ, Bool, true, false, ◌&&◌, nat_le, codes, Option, Some, None, Result, Ok}
 use Rattle.ignite_types.specs.Good.{is_within}
+use Rattle.ignite_types.specs.declared.limits.TheConstants.{BACKUPS, MOMENTS, NEAR_ENTRIES, NODE_NUMBERS, PARTITIONS}
 use Rattle.ignite_types.specs.declared.text.Key.{Key}
 use Rattle.ignite_types.specs.declared.scenario.Cache.{Cache}
 use Rattle.ignite_types.specs.declared.scenario.Command.{Command}
@@ -25,7 +26,7 @@ use Rattle.scen_text.specs.Causes.{◌>>=◌, rule, fit}
 
 -- the settings of format 1 where no line sets one
 abbrev pub default_settings : Settings
-default_settings = record { parts = 1024; backups = 0; near = 0 }
+default_settings = record { parts = PARTITIONS; backups = 0; near = 0 }
 
 abbrev pub set : Settings → Setting → ℕ → Settings
 set settings setting.Parts n = record settings { parts = n }
@@ -33,9 +34,9 @@ set settings setting.Backups n = record settings { backups = n }
 set settings setting.Near n = record settings { near = n }
 
 abbrev pub setting_fits : Setting → ℕ → Bool
-setting_fits setting.Parts n = is_within 1 1024 n
-setting_fits setting.Backups n = nat_le n 3
-setting_fits setting.Near n = nat_le n 10000
+setting_fits setting.Parts n = is_within 1 PARTITIONS n
+setting_fits setting.Backups n = nat_le n BACKUPS
+setting_fits setting.Near n = nat_le n NEAR_ENTRIES
 
 abbrev pub setting_what : Setting → What
 setting_what setting.Parts = what.Parts
@@ -48,7 +49,7 @@ default_cache settings =
     record { name = codes "default"; parts = settings.parts; backups = settings.backups; near = settings.near; first = true; «data» = false }
 
 abbrev pub cache_fits : CacheWords → Bool
-cache_fits words = is_within 1 1024 words.parts && nat_le words.backups 3 && nat_le words.near 10000
+cache_fits words = is_within 1 PARTITIONS words.parts && nat_le words.backups BACKUPS && nat_le words.near NEAR_ENTRIES
 
 -- the cache that these words name, of a line or a step at which its numbers are named so
 abbrev pub cache_of : What → Bool → Bool → CacheWords → Result Cache Cause
@@ -59,15 +60,15 @@ cache_of w first is_data words = do
 
 -- the numbers of a step are those that nodes may have
 abbrev pub nodes_fit : Step → Bool
-nodes_fit (step.Lose n) = is_within 1 99 n.0
-nodes_fit (step.Hold sender addressee) = is_within 1 99 sender.0 && is_within 1 99 addressee.0
-nodes_fit (step.Release sender addressee) = is_within 1 99 sender.0 && is_within 1 99 addressee.0
+nodes_fit (step.Lose n) = is_within 1 NODE_NUMBERS n.0
+nodes_fit (step.Hold sender addressee) = is_within 1 NODE_NUMBERS sender.0 && is_within 1 NODE_NUMBERS addressee.0
+nodes_fit (step.Release sender addressee) = is_within 1 NODE_NUMBERS sender.0 && is_within 1 NODE_NUMBERS addressee.0
 nodes_fit _ = true
 
 -- timeouts and sleeps
 abbrev pub bare_fits : Command → Bool
-bare_fits (command.Begin mode timeout) = nat_le timeout 1000000
-bare_fits (command.Sleep moments) = is_within 1 1000000 moments
+bare_fits (command.Begin mode timeout) = nat_le timeout MOMENTS
+bare_fits (command.Sleep moments) = is_within 1 MOMENTS moments
 bare_fits _ = true
 
 abbrev pub bare_what : Command → What

@@ -169,4 +169,5 @@ is_remark (byte ∷ bytes) = byte == 35
 
 -- what a line of a text of this format means
 abbrev pub line_meant : ℕ → List ℕ → Result Line Cause
-line_meant format bytes = if not (is_utf8 bytes) then Err NotUtf8 else (if is_remark bytes then Ok line.Blank else meaning format (words bytes))
+line_meant format bytes =
+    if not (is_utf8 bytes) then Err NotUtf8 else (if is_remark bytes then Ok line.Blank else meaning format (words bytes))

@@ -70,5 +70,6 @@ step_or_syntax moment None rest = Err Syntax
 
 -- `plan M STEP`
 abbrev pub plan_line : ℕ → List (List ℕ) → Result Line Cause
-plan_line format (first ∷ second ∷ rest) = number_of_word first >>= λ moment. step_or_syntax moment (step_keyword format second) rest
+plan_line format (first ∷ second ∷ rest) =
+    number_of_word first >>= λ moment. step_or_syntax moment (step_keyword format second) rest
 plan_line format _ = Err Syntax

@@ -1,6 +1,7 @@
 -- What a text means: its lines in their order.
 use Rattle.std.specs.Prelude.{ℕ, ◌+◌, nat_lt, List, [], ◌∷◌, length, flat_map, Result, Ok, Err, if◌then◌else◌}
 use Rattle.std.specs.Str.Lines.{lines}
+use Rattle.ignite_types.specs.declared.limits.TheConstants.{TEXT_BYTES}
 use Rattle.ignite_types.specs.declared.names.NodeId.{NodeId}
 use Rattle.ignite_types.specs.declared.scenario.Scenario.{Scenario}
 use Rattle.scen_text.specs.declared.cause.Cause.{Cause}
@@ -42,4 +43,5 @@ read_text text = read_lines 1 (empty (named_in text)) text
 
 -- the scenario that the bytes are, or why they are none
 abbrev pub scenario_of : List ℕ → Result Scenario Refusal
-scenario_of bytes = if nat_lt 1048576 (length bytes) then Err (record { line = 0; cause = TooLong }) else read_text (lines bytes)
+scenario_of bytes =
+    if nat_lt TEXT_BYTES (length bytes) then Err (record { line = 0; cause = TooLong }) else read_text (lines bytes)

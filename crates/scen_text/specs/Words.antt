@@ -5,6 +5,7 @@ use Rattle.std.specs.List.{slice_split, list_all, position_or_len, before_first,
 use Rattle.std.specs.Str.Parse.{digits_value}
 use Rattle.ignite_types.specs.Texts.{is_digit, is_key_byte, is_value_byte, key_of, value_of}
 use Rattle.ignite_types.specs.Good.{is_name_byte}
+use Rattle.ignite_types.specs.declared.limits.TheConstants.{NAME_BYTES}
 use Rattle.ignite_types.specs.declared.text.Key.{Key}
 use Rattle.ignite_types.specs.declared.text.TextFault.{TextFault}
 use Rattle.ignite_types.specs.declared.text.TextFault.TheVariants as text
@@ -49,13 +50,13 @@ number_of_word word = if is_number_word word then Ok (digits_value 10 word) else
 -- letters and digits, at least one, at most 16 of them to fit
 abbrev pub name : List ℕ → Result (Option (List ℕ)) Cause
 name word =
-    if (length word == 0) || not (list_all is_name_byte word) then Err Syntax else (if nat_le (length word) 16 then Ok (Some word) else Ok None)
+    if (length word == 0) || not (list_all is_name_byte word) then Err Syntax else (if nat_le (length word) NAME_BYTES then Ok (Some word) else Ok None)
 
 -- the name of a data object, in cache 0 for now
 abbrev pub object : List ℕ → Result (Option Key) Cause
 object word =
     if (length word == 0) || not (list_all is_name_byte word) then Err Syntax
-    else (if nat_le (length word) 16 then Ok (Some (record { cache = 0; text = word })) else Ok None)
+    else (if nat_le (length word) NAME_BYTES then Ok (Some (record { cache = 0; text = word })) else Ok None)
 
 -- what a text of this form was read as
 abbrev pub fitting : {A : Type 0} → Bool → Result A TextFault → Result (Option A) Cause

@@ -18,25 +18,11 @@ use crate::meaning::line_of;
 use crate::objects::Objects;
 use crate::place::{Place, place_of};
 use crate::words::Name;
+use ignite_types::limits::{CACHES, COMMANDS, NODES, PARTITIONS, SESSIONS, STEPS};
 use ignite_types::{
     Cache, Command, Item, Key, List, Mem, Member, NodeId, PlanStep, Scenario, Session, Step,
 };
 use std::alloc::Global;
-
-/// The most caches, nodes, steps and sessions of a run.
-const CACHES: usize = 8;
-
-const NODES: usize = 16;
-
-const STEPS: usize = 64;
-
-const SESSIONS: usize = 64;
-
-/// The most commands of a session.
-const COMMANDS: usize = 1000;
-
-/// The most partitions in all.
-const PARTITIONS: u64 = 1024;
 
 /// What was read so far.
 #[derive(Drop)]

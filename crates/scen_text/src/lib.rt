@@ -16,7 +16,7 @@ mod read;
 mod words;
 
 pub use cause::{Cause, ReadFault, What, refusal_line};
-pub use read::{TEXT_BYTES, read_scenario};
+pub use read::read_scenario;
 
 #[cfg(test)]
 mod tests;

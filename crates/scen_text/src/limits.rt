@@ -7,11 +7,9 @@ ghost use Rattle.scen_text.specs.Limits.{default_settings, set, setting_fits, se
 
 use crate::cause::{Cause, LineFault, What, fit, rule};
 use crate::line::{CacheWords, Setting, Verb};
+use ignite_types::limits::{BACKUPS, MOMENTS, NEAR_ENTRIES, NODE_NUMBERS, PARTITIONS};
 use ignite_types::{Cache, Command, Item, Key, List, Mem, NodeId, Step};
 use std::alloc::Global;
-
-/// The most of a moment, a timeout and a sleep.
-const MOMENTS: u64 = 1_000_000;
 
 /// What format 1 sets of its one cache.
 #[derive(Clone, Copy)]
@@ -41,7 +39,7 @@ pub fn default_settings() -> Settings
     ensures { result ≡ default_settings }
 {
     Settings {
-        parts: 1024,
+        parts: PARTITIONS as u32,
         backups: 0,
         near: 0,
     }
@@ -80,9 +78,9 @@ pub fn setting_fits(setting: Setting, n: u32) -> bool
     ensures { result ≡ setting_fits setting n }
 {
     match setting {
-        Setting::Parts => is_within(1, 1024, u64::from(n)),
-        Setting::Backups => n <= 3,
-        Setting::Near => n <= 10000,
+        Setting::Parts => is_within(1, PARTITIONS, u64::from(n)),
+        Setting::Backups => n <= BACKUPS,
+        Setting::Near => n <= NEAR_ENTRIES,
     }
 }
 
@@ -115,7 +113,9 @@ pub fn default_cache(alloc: Global, settings: Settings) -> Mem<Cache>
 fn cache_fits(words: &CacheWords) -> bool
     ensures { result ≡ cache_fits words.now }
 {
-    is_within(1, 1024, u64::from(words.parts)) && words.backups <= 3 && words.near <= 10000
+    is_within(1, PARTITIONS, u64::from(words.parts))
+        && words.backups <= BACKUPS
+        && words.near <= NEAR_ENTRIES
 }
 
 /// The cache that these words name.
@@ -143,14 +143,14 @@ pub fn cache_of(
 
 /// Whether the number is one that a node may have.
 pub fn node_fits(node: NodeId) -> bool
-    ensures { result ≡ is_within 1 99 node.0 }
+    ensures { result ≡ is_within 1 NODE_NUMBERS node.0 }
 {
-    is_within(1, 99, u64::from(node.0))
+    is_within(1, NODE_NUMBERS, u64::from(node.0))
 }
 
 /// Whether the moment is one that a plan may have.
 pub fn moment_fits(moment: u32) -> bool
-    ensures { result ≡ is_within 1 1000000 moment }
+    ensures { result ≡ is_within 1 MOMENTS moment }
 {
     is_within(1, MOMENTS, u64::from(moment))
 }

@@ -11,11 +11,9 @@ use crate::draft::Draft;
 use crate::line::Line;
 use crate::lines::first_line;
 use crate::meaning::line_of;
+use ignite_types::limits::TEXT_BYTES;
 use ignite_types::{List, Mem, NodeId, Scenario};
 use std::alloc::Global;
-
-/// The most bytes that a scenario's text may have.
-pub const TEXT_BYTES: usize = 1_048_576;
 
 /// Adds the node that a line or a join step names.
 fn push_named(out: &mut List<NodeId>, line: &Result<Line, Cause>) -> Mem<()>

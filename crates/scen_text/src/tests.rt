@@ -1,5 +1,6 @@
 use crate::{Cause, ReadFault, read_scenario, refusal_line};
 use ignite_types::{Command, Item, Key, Value};
+use scen_print::{TextOut, print_scenario, write_item};
 use std::alloc::Global;
 use std::test::Fail;
 
@@ -160,5 +161,32 @@ fn prints_what_it_read(rt: HostRuntime) -> Result<(), Fail> {
     assert_eq!(rt; printed(rt.alloc(), LOOSE)?.as_slice(), FIRST);
     assert_eq!(rt; printed(rt.alloc(), FIRST)?.as_slice(), FIRST);
     assert_eq!(rt; printed(rt.alloc(), SECOND)?.as_slice(), SECOND);
+    Ok(())
+}
+
+/// An item as a text of this scenario has it.
+fn item_text(alloc: Global, text: &[u8], item: &Item) -> Result<Vec<u8>, Fail> {
+    let scenario = read_scenario(alloc, text)?;
+    let mut out = TextOut::new(alloc);
+    write_item(&mut out, &scenario, item)?;
+    Ok(out.into_vec())
+}
+
+#[test]
+fn prints_items(rt: HostRuntime) -> Result<(), Fail> {
+    let put = Item::Plain(Command::Put(Key::read(b"k1")?, Value::read(b"a:b")?));
+    let offer = Item::Offer(Key::read(b"k1")?, Value::read(b"a:b")?);
+    assert_eq!(rt;
+        item_text(rt.alloc(), FIRST, &put)?.as_slice(),
+        b"put k1 a:b".as_slice()
+    );
+    assert_eq!(rt;
+        item_text(rt.alloc(), SECOND, &put)?.as_slice(),
+        b"put c/k1 a:b".as_slice()
+    );
+    assert_eq!(rt;
+        item_text(rt.alloc(), SECOND, &offer)?.as_slice(),
+        b"offer c/k1 a:b".as_slice()
+    );
     Ok(())
 }

@@ -10,6 +10,7 @@ ghost use Rattle.scen_text.specs.Words.{at_slash, fitting, four_words, integer, 
 
 use crate::cause::Cause;
 use crate::lines::{cut_at, first_word};
+use ignite_types::limits::NAME_BYTES;
 use ignite_types::{Key, ShortText, TextFault, Value};
 
 /// The most digits that a number may have.
@@ -20,9 +21,6 @@ const INTEGER_DIGITS: usize = 19;
 
 /// The greatest integer.
 const MOST: u64 = 9_223_372_036_854_775_807;
-
-/// The most bytes that a name may have.
-pub const NAME_BYTES: usize = 16;
 
 /// A session's or a cache's name.
 pub type Name = ShortText<NAME_BYTES>;

@@ -41,7 +41,8 @@ other_than from to = if to == from then (from + 1) % 16 else to
 
 -- takes an amount from one key and adds it to another
 abbrev pub moved_amount : ℕ → ℕ → ℕ → List Item
-moved_amount from to amount = Plain (Add (numbered_key from) (neg_ℤ (pos amount))) ∷ Plain (Add (numbered_key to) (pos amount)) ∷ []
+moved_amount from to amount =
+    Plain (Add (numbered_key from) (neg_ℤ (pos amount))) ∷ Plain (Add (numbered_key to) (pos amount)) ∷ []
 
 abbrev pub transaction : Words → List Item
 transaction words =

@@ -3,7 +3,8 @@
 ghost use Rattle.std.specs.Prelude.{◌≡◌, ◌≤◌, ◌∷◌, ◌++◌, length, take};
 ghost use Rattle.part_model.specs.Script.{head_key, item_key, own_key, tail_key};
 
-use ignite_types::{KEY_BYTES, Key, ShortText};
+use ignite_types::limits::KEY_BYTES;
+use ignite_types::{Key, ShortText};
 use itoa::Buffer;
 
 /// Writes two texts in a row, as much of them as there is room for, and says how much that is.

@@ -20,7 +20,8 @@ picks seed k n = pick seed k (counted n)
 -- from the k-th event on, each event is the picked one
 abbrev pub AllPicked : ℕ → ℕ → World → List Group → Type 0
 AllPicked seed k w [] = Unit {0}
-AllPicked seed k w (g ∷ gs) = IsPicked (picks seed k (length (possible w))) w g.event × AllPicked seed (k + 1) (outcome w g.event).world gs
+AllPicked seed k w (g ∷ gs) =
+    IsPicked (picks seed k (length (possible w))) w g.event × AllPicked seed (k + 1) (outcome w g.event).world gs
 
 -- the groups so far are steps of the machine and follow the schedule
 pub record PastFollows (seed : ℕ) (r : Run) : Type 0 where

@@ -100,9 +100,11 @@ LineSays s said _ j text = ⊥
 
 -- what the bytes of a scenario come to
 abbrev pub Means : Options → List ℕ → Status → Journal → List ℕ → Type 0
-Means o bytes status.AllEnded j text = (scenario_of bytes ≡ Ok j.scenario) × Runs o status.AllEnded j × (text ≡ output_text o j)
+Means o bytes status.AllEnded j text =
+    (scenario_of bytes ≡ Ok j.scenario) × Runs o status.AllEnded j × (text ≡ output_text o j)
 Means o bytes status.Stalled j text = (scenario_of bytes ≡ Ok j.scenario) × Runs o status.Stalled j × (text ≡ output_text o j)
-Means o bytes status.StepLimit j text = (scenario_of bytes ≡ Ok j.scenario) × Runs o status.StepLimit j × (text ≡ output_text o j)
+Means o bytes status.StepLimit j text =
+    (scenario_of bytes ≡ Ok j.scenario) × Runs o status.StepLimit j × (text ≡ output_text o j)
 Means o bytes status.Refused j text = IsRefused bytes text × (j.groups ≡ [])
 Means o bytes status.Memory j text = OutOfMemory o j text
 Means o bytes _ j text = ⊥

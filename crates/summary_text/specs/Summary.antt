@@ -77,7 +77,8 @@ abbrev pub made_line : Made → List ℕ
 made_line made = sizes_text made ++ (number_text (codes " seed ") made.seed ++ 10 ∷ [])
 
 abbrev pub summary_told_lines : List Told → List ℕ
-summary_told_lines tolds = count_line (codes "committed_count") (committed_count tolds) ++ count_line (codes "failed") (failed tolds)
+summary_told_lines tolds =
+    count_line (codes "committed_count") (committed_count tolds) ++ count_line (codes "failed") (failed tolds)
 
 abbrev pub total_line : Map → List ℕ
 total_line m = codes "total " ++ (signed_decimal (total m) ++ 10 ∷ [])

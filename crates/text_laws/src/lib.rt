@@ -8,10 +8,11 @@ ghost use Rattle.text_laws.specs.RoundTrip.{ReadsBack};
 
 mod longs;
 
+use ignite_types::limits::TEXT_BYTES;
 use ignite_types::{Mem, NoMemory, Scenario};
 pub use longs::integers_are_long;
 use scen_print::print_scenario;
-use scen_text::{ReadFault, TEXT_BYTES, read_scenario};
+use scen_text::{ReadFault, read_scenario};
 use std::alloc::Global;
 
 /// The canonical text of each good scenario, if it is no longer than a text may be, is read as that scenario.

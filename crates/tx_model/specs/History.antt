@@ -129,7 +129,8 @@ value_found None = None
 value_found (Some (value, ver)) = Some value
 
 abbrev pub walk_with_first_find : Walk → Key → Found → Walk
-walk_with_first_find w key found = record w { finds = put key_cmp w.finds key found; reads = put key_cmp w.reads key (value_found found) }
+walk_with_first_find w key found =
+    record w { finds = put key_cmp w.finds key found; reads = put key_cmp w.reads key (value_found found) }
 
 -- a first read of a key, before any write of it
 abbrev pub walk_with_first_read : Walk → Key → Option (Option (List ℕ)) → Option (Option (List ℕ)) → Walk
@@ -199,7 +200,8 @@ abbrev pub is_tx_closed : Walk → TxId → Bool
 is_tx_closed w tx = has tx_cmp w.overs tx
 
 abbrev pub walk_after_find : TxId → Walk → TxId → Key → Found → Walk
-walk_after_find tx w u key found = if same_tx u tx && not (is_tx_closed w u) then walk_with_find w key (at key_cmp w.finds key) found else w
+walk_after_find tx w u key found =
+    if same_tx u tx && not (is_tx_closed w u) then walk_with_find w key (at key_cmp w.finds key) found else w
 
 abbrev pub walk_with_near : Walk → Key → Found → Walk
 walk_with_near w key found = record w { near = put key_cmp w.near key found }
@@ -207,7 +209,8 @@ walk_with_near w key found = record w { near = put key_cmp w.near key found }
 -- a value for the near cache of the transaction's starter, until its own transaction is decided or has a fault
 abbrev pub walk_after_near_get : TxId → Walk → Option NodeId → TxId → Key → Found → Walk
 walk_after_near_get tx w to u key None = w
-walk_after_near_get tx w to u key (Some found) = if is_node tx.node to && not (is_tx_closed w u) then walk_with_near w key (Some found) else w
+walk_after_near_get tx w to u key (Some found) =
+    if is_node tx.node to && not (is_tx_closed w u) then walk_with_near w key (Some found) else w
 
 abbrev pub found_after_update : Option (List ℕ) → CacheVersion → Found
 found_after_update None ver = None
@@ -236,10 +239,12 @@ walk_after_decide tx w u commit =
 
 -- one record of the walk for this transaction; `to` is the node that takes a message in this group
 abbrev pub walk_after_record : TxId → Option NodeId → Walk → Rec → Walk
-walk_after_record tx to w (note.Call session c) = if is_called tx session then with_near_read_if_started (walk_after_call w c) w.top else w
+walk_after_record tx to w (note.Call session c) =
+    if is_called tx session then with_near_read_if_started (walk_after_call w c) w.top else w
 walk_after_record tx to w (note.Answer session a) = if is_called tx session then walk_after_answer tx w w.called a else w
 walk_after_record tx to w (note.Deliver from m) = walk_after_delivery tx w to m
-walk_after_record tx to w (note.Start u top) = if same_tx u tx then with_near_read (record w { top = Some top }) w.called else w
+walk_after_record tx to w (note.Start u top) =
+    if same_tx u tx then with_near_read (record w { top = Some top }) w.called else w
 walk_after_record tx to w (note.Decide u commit) = walk_after_decide tx w u commit
 walk_after_record tx to w (note.Fault u why) = walk_with_closed w u
 walk_after_record tx to w _ = w
@@ -322,7 +327,8 @@ unless_bad_read (Some key) place rest = Err (record { place = place; key = key }
 -- the map after the entries, the first of which stands at this place, or the first bad read
 abbrev pub serial_from : ℕ → Map → List CommitEntry → Result Map BadRead
 serial_from place m [] = Ok m
-serial_from place m (e ∷ es) = unless_bad_read (bad_read m e.reads) place (serial_from (place + 1) (map_with_writes m e.writes) es)
+serial_from place m (e ∷ es) =
+    unless_bad_read (bad_read m e.reads) place (serial_from (place + 1) (map_with_writes m e.writes) es)
 
 -- the map after the entries, from the empty map
 abbrev pub serial : List CommitEntry → Result Map BadRead

@@ -2,7 +2,7 @@
 use Rattle.std.specs.List.{flat_map}
 use Rattle.std.specs.Ordering.{nat_cmp}
 use Rattle.std.specs.Prelude.{Bool, None, Option, Some, [], false, if◌then◌else◌, map, true, ℕ, ◌++◌, ◌∷◌}
-use Rattle.act_rows.specs.Commands.{new_session_state}
+use Rattle.act_rows.specs.NewNodes.{opening_map_of, opening_node}
 use Rattle.part_model.specs.Copies.{Copy}
 use Rattle.part_model.specs.Directory.{first_top, node_set, opening_directory, running_from}
 use Rattle.part_model.specs.Links.{Inbox, new_inbox}
@@ -45,7 +45,8 @@ ids_of scenario = node_set [] (declared_nodes scenario)
 
 abbrev pub session_nodes_from : ℕ → List (ℕ × NodeId) → List Session → List (ℕ × NodeId)
 session_nodes_from number session_nodes [] = session_nodes
-session_nodes_from number session_nodes (session ∷ more) = session_nodes_from (capped number 1) (put nat_cmp session_nodes number session.node) more
+session_nodes_from number session_nodes (session ∷ more) =
+    session_nodes_from (capped number 1) (put nat_cmp session_nodes number session.node) more
 
 abbrev pub opening_part : Scenario → PartMap → NodeId → Part
 opening_part scenario m id = let initial = is_member scenario.nodes id in

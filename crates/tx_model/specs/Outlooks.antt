@@ -119,7 +119,8 @@ standing_before_start w node (Some e) = if is_none e.top then standing_unopened 
 
 abbrev pub standing_by_tx : World → NodeState → Option TxId → Option Standing
 standing_by_tx w node None = None
-standing_by_tx w node (Some tx) = or_standing (standing_queued_in tx w.parts) (standing_before_start w node (entry_of node tx))
+standing_by_tx w node (Some tx) =
+    or_standing (standing_queued_in tx w.parts) (standing_before_start w node (entry_of node tx))
 
 abbrev pub standing_or_busy : Option Standing → Standing
 standing_or_busy None = standing.Busy
@@ -135,7 +136,8 @@ standing_unless_lost w node _ tx = standing_of_waiting w node tx
 
 abbrev pub standing_of_session_state : World → NodeState → Life → Option SessionState → Standing
 standing_of_session_state w node life None = standing.Ended
-standing_of_session_state w node life (Some d) = if is_session_state_over d then standing.Ended else standing_unless_lost w node life d.tx
+standing_of_session_state w node life (Some d) =
+    if is_session_state_over d then standing.Ended else standing_unless_lost w node life d.tx
 
 abbrev pub standing_at : World → ℕ → Option Part → Standing
 standing_at w session None = standing.Ended

@@ -4,7 +4,7 @@ use Rattle.std.specs.Option.{option_and_then, option_map}
 use Rattle.std.specs.Ordering.{nat_cmp}
 use Rattle.std.specs.Prelude.{Bool, None, Option, Some, [], false, filter, if◌then◌else◌, is_some, length, map, nat_eq, not, position, slice_get, slice_set, true, ℕ, ◌&&◌, ◌++◌, ◌||◌, ◌∷◌}
 use Rattle.act_rows.specs.Acts.{Acted, answer_act, call_act, expire_act, join_act, may_answer, may_call, may_send, message_act, minor_act, oldest_out, see_act, send_act, with_act_begun}
-use Rattle.act_rows.specs.Commands.{is_session_state_over}
+use Rattle.act_rows.specs.Commands.{is_over_or_absent}
 use Rattle.act_rows.specs.Exchange.{without_single}
 use Rattle.act_rows.specs.Filling.{may_switch}
 use Rattle.act_rows.specs.Searches.{is_overdue, next_moment, sooner_moment, soonest_moment}
@@ -145,7 +145,8 @@ with_delivery w from None = w
 with_delivery w from (Some out) = let place = place_of w out.to in with_inbox_push w from out.msg place (inbox_on w place)
 
 abbrev pub send_outcome : World → Option ℕ → Option Part → Outcome
-send_outcome w (Some place) (Some p) = outcome_of_act (with_delivery w p.node.me (oldest_out p.node)) place p (send_act p.node)
+send_outcome w (Some place) (Some p) =
+    outcome_of_act (with_delivery w p.node.me (oldest_out p.node)) place p (send_act p.node)
 send_outcome w _ _ = unchanged w
 
 abbrev pub see_outcome_of : World → ℕ → Part → Option TopoEvent → Outcome
@@ -173,7 +174,8 @@ call_outcome w session _ _ = unchanged w
 
 -- the plan step at hand is done or refused
 abbrev pub plan_outcome_with : World → Directory → Option NoLoss → List Rec → Outcome
-plan_outcome_with w d refused recs = record { world = with_directory w (with_step_done d); recs = note.Planned d.done refused ∷ recs }
+plan_outcome_with w d refused recs =
+    record { world = with_directory w (with_step_done d); recs = note.Planned d.done refused ∷ recs }
 
 abbrev pub join_outcome_at : World → ℕ → Member → Directory → NodeState → Outcome
 join_outcome_at w place member d node = let act = join_act node d.events d.clock (topo.Join member) in
@@ -222,7 +224,8 @@ world_after_loss w id place = let other = without_links w id place in record oth
 
 abbrev pub loss_outcome : World → NodeId → Directory → Option NoLoss → Outcome
 loss_outcome w id d (Some refused) = plan_outcome_with w d (Some refused) []
-loss_outcome w id d None = plan_outcome_with (world_after_loss w id (place_of w id)) (with_event d (topo.Left id)) None (note.Lost id ∷ [])
+loss_outcome w id d None =
+    plan_outcome_with (world_after_loss w id (place_of w id)) (with_event d (topo.Left id)) None (note.Lost id ∷ [])
 
 abbrev pub with_link_held : World → NodeId → Bool → Option ℕ → Option Inbox → World
 with_link_held w from map_holders (Some place) (Some inbox) = with_inbox w place (with_hold inbox from map_holders)
@@ -230,7 +233,8 @@ with_link_held w from map_holders _ _ = w
 
 -- the link is held from now on, or goes on
 abbrev pub with_hold_between : World → NodeId → NodeId → Bool → World
-with_hold_between w from to map_holders = let place = place_of w to in with_link_held w from map_holders place (inbox_on w place)
+with_hold_between w from to map_holders =
+    let place = place_of w to in with_link_held w from map_holders place (inbox_on w place)
 
 abbrev pub step_outcome : World → Directory → Step → Outcome
 step_outcome w d (step.Join member) = let place = place_of w member.node in join_outcome w member d place (part_on w place)
@@ -283,7 +287,8 @@ memory_outcome w _ _ = record { world = record w { broken = true }; recs = note.
 
 -- what an event does
 abbrev pub outcome : World → Event → Outcome
-outcome w (event.Answer session) = let place = live_session_place w session in answer_outcome w session place (part_on w place)
+outcome w (event.Answer session) =
+    let place = live_session_place w session in answer_outcome w session place (part_on w place)
 outcome w (event.Act id from) = let place = live_place w id in act_outcome w from place (part_on w place) (inbox_on w place)
 outcome w (event.Send id) = let place = live_place w id in send_outcome w place (part_on w place)
 outcome w (event.See id) = let place = live_place w id in see_outcome w place (part_on w place)

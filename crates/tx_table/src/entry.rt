@@ -8,6 +8,7 @@ ghost use Rattle.ordered_table.specs.Places.{IsAscending};
 ghost use Rattle.tx_table.specs.Touches.{reads_in, seen, touch_in, with_read, with_write, writes_in};
 ghost use Rattle.tx_table.specs.Transactions.{new_transaction};
 
+use ignite_types::limits::TRANSACTION_KEYS;
 use ignite_types::{Key, List, Mem, Mode, TopVer, Value};
 use node_state::{Read, TxState};
 use ordered_table::Table;
@@ -15,7 +16,6 @@ use std::alloc::Global;
 use std::marker::Model;
 
 /// The most keys that a transaction touches.
-const MOST_KEYS: usize = 64;
 
 /// What is kept of a touched key: what was read there, and what was written last, nothing for a removal.
 #[derive(Clone, Copy, Debug, PartialEq, Eq)]
@@ -167,7 +167,7 @@ impl TxEntry {
     {
         match self.touched.get(key) {
             Some(touched) => Some(Touch::Known(touched.seen())),
-            None if self.touched.len() < MOST_KEYS => Some(Touch::Fresh),
+            None if self.touched.len() < TRANSACTION_KEYS => Some(Touch::Fresh),
             None => None,
         }
     }
