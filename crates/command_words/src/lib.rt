@@ -12,6 +12,7 @@ mod values;
 
 use crate::command::{asked_of, fault, sim_command};
 use std::alloc::{AllocError, Global};
+use thiserror::Error;
 
 /// What the words ask for.
 #[derive(Clone, Copy, Debug, PartialEq, Eq)]
@@ -38,11 +39,13 @@ pub struct Make {
 }
 
 /// Why words ask for nothing.
-#[derive(Clone, Copy, Debug, PartialEq, Eq)]
+#[derive(Clone, Copy, Debug, PartialEq, Eq, Error)]
 pub enum WordsFault {
     /// They are no command line.
+    #[error("the words are no command line")]
     Usage,
     /// Memory ran out.
+    #[error("no memory is left")]
     NoMemory,
 }
 

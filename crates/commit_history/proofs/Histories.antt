@@ -39,7 +39,7 @@ groups_follow m tx w (g ∷ gs) f =
     groups_follow (steps.walks_after_records m (taker_of g.event) g.recs) tx (history.walk_after_records tx (taker_of g.event) w g.recs) gs (recs_follow m tx w (taker_of g.event) g.recs f)
 
 -- before the first record the walk of a transaction of its session's node is the fresh one
-opening_follows : (sessions : List Session) (tx : TxId) (home : NodeId) → at nat_cmp (nodes_from 1 [] sessions) tx.session ≡ Some home → home ≡ tx.node → Follows (opening_walks sessions) tx fresh_walk
+opening_follows : (sessions : List Session) (tx : TxId) (home : NodeId) → at nat_cmp (session_nodes_from 1 [] sessions) tx.session ≡ Some home → home ≡ tx.node → Follows (opening_walks sessions) tx fresh_walk
 opening_follows sessions tx home here same = record {
   line = new_line home;
   here = rw here refl;
@@ -78,10 +78,10 @@ entry_is m tx w f =
 home_is : (sessions : List Session) (all : List Group) (tx : TxId) → Follows (walks_after_groups (opening_walks sessions) all) tx (history.walk_after_groups tx fresh_walk all) → entry_of_line_if (walks_after_groups (opening_walks sessions) all) all tx (session_line_of (walks_after_groups (opening_walks sessions) all) tx.session) ≡ footprint all tx
 home_is sessions all tx f = rw f.here (sym (entry_is (walks_after_groups (opening_walks sessions) all) tx (history.walk_after_groups tx fresh_walk all) f))
 
-footprint_is : (sessions : List Session) (all : List Group) (tx : TxId) → entry_of_walks (nodes_from 1 [] sessions) (walks_after_groups (opening_walks sessions) all) all tx ≡ footprint all tx
+footprint_is : (sessions : List Session) (all : List Group) (tx : TxId) → entry_of_walks (session_nodes_from 1 [] sessions) (walks_after_groups (opening_walks sessions) all) all tx ≡ footprint all tx
 footprint_is sessions all tx =
     let m = walks_after_groups (opening_walks sessions) all in
-    elim (at nat_cmp (nodes_from 1 [] sessions) tx.session) as (λ r. at nat_cmp (nodes_from 1 [] sessions) tx.session ≡ r → entry_of_home m all tx r ≡ footprint all tx) [
+    elim (at nat_cmp (session_nodes_from 1 [] sessions) tx.session) as (λ r. at nat_cmp (session_nodes_from 1 [] sessions) tx.session ≡ r → entry_of_home m all tx r ≡ footprint all tx) [
       | None ↦ λ here. refl
       | Some home ↦ λ here.
           elim (same_node home tx.node) as (λ b. same_node home tx.node ≡ b → (if b then entry_of_line_if m all tx (session_line_of m tx.session) else footprint all tx) ≡ footprint all tx) [
@@ -111,12 +111,12 @@ map_same f g same (x ∷ xs) = ap (λ y. y ∷ map f xs) (same x) ∙ ap (λ ys.
 
 -- the commits, each with what the one walk found
 pub commits_are : (sessions : List Session) (all : List Group) →
-    map (λ (tx : TxId). entry_of_walks (nodes_from 1 [] sessions) (walks_after_groups (opening_walks sessions) all) all tx) (firsts [] (records all)) ≡ history.commits all
+    map (λ (tx : TxId). entry_of_walks (session_nodes_from 1 [] sessions) (walks_after_groups (opening_walks sessions) all) all tx) (firsts [] (records all)) ≡ history.commits all
 commits_are sessions all =
-    map_same (λ (tx : TxId). entry_of_walks (nodes_from 1 [] sessions) (walks_after_groups (opening_walks sessions) all) all tx) (footprint all) (footprint_is sessions all) (firsts [] (records all))
+    map_same (λ (tx : TxId). entry_of_walks (session_nodes_from 1 [] sessions) (walks_after_groups (opening_walks sessions) all) all tx) (footprint all) (footprint_is sessions all) (firsts [] (records all))
     ∙ sym (firsts_are all [] (records all))
 
 -- the same, of a list, nodes and a walk that are equal to those
-pub found_are : (sessions : List Session) (all : List Group) (nodes : List (ℕ × NodeId)) (m : Walks) (txs : List TxId) → txs ≡ firsts [] (records all) → nodes ≡ nodes_from 1 [] sessions → m ≡ walks_after_groups (opening_walks sessions) all →
+pub found_are : (sessions : List Session) (all : List Group) (nodes : List (ℕ × NodeId)) (m : Walks) (txs : List TxId) → txs ≡ firsts [] (records all) → nodes ≡ session_nodes_from 1 [] sessions → m ≡ walks_after_groups (opening_walks sessions) all →
     map (λ (tx : TxId). entry_of_walks nodes m all tx) txs ≡ history.commits all
 found_are sessions all nodes m txs in_order by_number walked = rw (in_order, by_number, walked) (commits_are sessions all)

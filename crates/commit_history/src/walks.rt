@@ -4,6 +4,7 @@ ghost use Rattle.std.specs.Prelude.{◌≡◌, [], Some, is_some, IfOk, OnOk};
 ghost use Rattle.ignite_types.specs.Names.{key_cmp};
 ghost use Rattle.ordered_table.specs.Entries.{at};
 ghost use Rattle.tx_model.specs.History as history;
+ghost use Rattle.tx_model.specs.Opening.{session_nodes_from};
 ghost use Rattle.commit_history.specs.Steps as steps;
 ghost use Rattle.commit_history.specs.Taking.{TakesNear, TakesWalk};
 
@@ -32,7 +33,7 @@ pub struct Walks {
 
 /// The node of each session, by its number.
 pub fn nodes_of(alloc: Global, sessions: &[Session]) -> Mem<Table<u32, NodeId>>
-    ensures { IfOk result (λ nodes. nodes ≡ steps.nodes_from 1 [] sessions.now) }
+    ensures { IfOk result (λ nodes. nodes ≡ session_nodes_from 1 [] sessions.now) }
 {
     let mut nodes = Table::new(alloc);
     let mut number = 1u32;

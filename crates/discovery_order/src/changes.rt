@@ -10,11 +10,14 @@ ghost use Rattle.ignite_types.specs.declared.journal.TopoEvent.TheVariants as to
 use crate::directory::Directory;
 use ignite_types::{Mem, Member, NoLoss, NoMemory, NodeId, PartMap, TopVer, TopoEvent};
 use std::alloc::Global;
+use thiserror::Error;
 
 /// Why a node does not join: its number was in before, or memory ran out.
-#[derive(Clone, Copy, Debug, PartialEq, Eq)]
+#[derive(Clone, Copy, Debug, PartialEq, Eq, Error)]
 pub enum JoinFault {
+    #[error("a node of this number was in before")]
     AlreadyIn,
+    #[error("no memory is left")]
     NoMemory,
 }
 
@@ -27,9 +30,11 @@ impl From<NoMemory> for JoinFault {
 }
 
 /// Why the loss of a node is refused, or that memory ran out.
-#[derive(Clone, Copy, Debug, PartialEq, Eq)]
+#[derive(Clone, Copy, Debug, PartialEq, Eq, Error)]
 pub enum LeftFault {
+    #[error("the loss is refused: {0:?}")]
     Refused(NoLoss),
+    #[error("no memory is left")]
     NoMemory,
 }
 

@@ -3,22 +3,15 @@
 ghost use Rattle.ignite_types.specs.declared.memory.NoMemory.{NoMemory};
 
 use std::alloc::{AllocError, AllocFailed};
-use std::fmt;
+use thiserror::Error;
 
 /// Want of memory: the one answer that a call may give at any time.
-#[derive(Clone, Copy, Debug, PartialEq, Eq)]
+#[derive(Clone, Copy, Debug, PartialEq, Eq, Error)]
+#[error("no memory is left")]
 pub struct NoMemory;
 
 /// What a call answers that takes memory and has no other cause to fail.
 pub type Mem<T> = Result<T, NoMemory>;
-
-impl fmt::Display for NoMemory {
-    fn fmt<W: fmt::Write>(&self, f: &mut fmt::Formatter<W>) -> fmt::Result {
-        write!(f, "no memory is left")
-    }
-}
-
-impl std::error::Error for NoMemory {}
 
 impl From<AllocError> for NoMemory {
     fn from(_: AllocError) -> NoMemory {

@@ -7,6 +7,7 @@ ghost use Rattle.ignite_types.specs.Texts.{allows, first_bad, text_of, key_of, v
 use crate::limits::{KEY_BYTES, VALUE_BYTES};
 use crate::short_text::ShortText;
 use std::marker::Model;
+use thiserror::Error;
 
 /// A key: a cache's number and at most 32 bytes. Compared by the number, then by the bytes.
 #[derive(Clone, Copy, Debug, PartialEq, Eq, PartialOrd, Ord, Hash)]
@@ -36,10 +37,13 @@ impl Model for Value {
 
 /// Why bytes are no key or no value: there are none, there are too many, or this place, from 0, has the first byte that
 /// may not stand there. Tried in this order.
-#[derive(Clone, Copy, Debug, PartialEq, Eq)]
+#[derive(Clone, Copy, Debug, PartialEq, Eq, Error)]
 pub enum TextFault {
+    #[error("the text is empty")]
     Empty,
+    #[error("the text is too long")]
     TooLong,
+    #[error("the byte at place {0} may not stand there")]
     BadByte(usize),
 }
 

@@ -8,6 +8,7 @@ use ignite_types::{Mem, NoMemory};
 use scen_print::TextOut;
 use std::alloc::Global;
 use std::fmt;
+use thiserror::Error;
 
 /// What is past its limit: a number of a line that begins with this word, or a text, a moment or a count.
 #[derive(Clone, Copy, Debug, PartialEq, Eq)]
@@ -35,25 +36,34 @@ pub enum What {
 }
 
 /// What is wrong with a text.
-#[derive(Clone, Copy, Debug, PartialEq, Eq)]
+#[derive(Clone, Copy, Debug, PartialEq, Eq, Error)]
 pub enum Cause {
     /// It has too many bytes.
+    #[error("the text is too long")]
     TooLong,
     /// A line is no UTF-8.
+    #[error("the line is not UTF-8")]
     NotUtf8,
     /// The first word of a line begins no line of the text's format.
+    #[error("no line of this format begins with that word")]
     UnknownWord,
     /// A line may not stand where it stands, or has a word too many, a word too few or one of another form.
+    #[error("a word is missing, too many, of another form, or the line may not stand there")]
     Syntax,
     /// A number, a length or a count is past its limit.
+    #[error("past the limit of {0:?}")]
     Limit(What),
     /// A step or a session names a node that no line and no join step names.
+    #[error("no line names that node")]
     NoSuchNode,
     /// A command or a stop step names a cache that no line before it names.
+    #[error("no line before names that cache")]
     NoSuchCache,
     /// A node, a session or a cache has a name that was given before, or a cache is stopped twice.
+    #[error("that name was given before")]
     DoubleName,
     /// The first line, a cache, a server or an `end` is not there.
+    #[error("the first line, a cache, a server or an end is missing")]
     Missing,
 }
 
@@ -118,16 +128,20 @@ impl Cause {
 
 /// Why no scenario was read: the text is refused at a line, counted from 1, or as a whole, at line 0; or no memory was
 /// left.
-#[derive(Clone, Copy, Debug, PartialEq, Eq)]
+#[derive(Clone, Copy, Debug, PartialEq, Eq, Error)]
 pub enum ReadFault {
+    #[error("line {line}: {cause}")]
     Refused { line: u32, cause: Cause },
+    #[error("no memory is left")]
     NoMemory,
 }
 
 /// Why a line was not taken.
-#[derive(Clone, Copy, Debug, PartialEq, Eq)]
+#[derive(Clone, Copy, Debug, PartialEq, Eq, Error)]
 pub enum LineFault {
+    #[error("{0}")]
     Bad(Cause),
+    #[error("no memory is left")]
     NoMemory,
 }
 

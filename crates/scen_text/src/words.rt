@@ -252,8 +252,8 @@ fn natural(most: u64, word: &[u8]) -> Result<u64, Cause>
 
 /// The number that is as far below 0 as this one is above.
 fn below_zero(number: u64) -> i64
-    requires { number_of_word ≤ 2 ^ 63 }
-    ensures { result ≡ negated number_of_word }
+    requires { number ≤ 2 ^ 63 }
+    ensures { result ≡ negated number }
 {
     if number == 0 {
         0

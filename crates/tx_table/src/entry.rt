@@ -14,6 +14,7 @@ use node_state::{Read, TxState};
 use ordered_table::Table;
 use std::alloc::Global;
 use std::marker::Model;
+use thiserror::Error;
 
 /// The most keys that a transaction touches.
 
@@ -35,10 +36,12 @@ pub enum Touch {
 }
 
 /// Why a key cannot be touched.
-#[derive(Clone, Copy, Debug, PartialEq, Eq)]
+#[derive(Clone, Copy, Debug, PartialEq, Eq, Error)]
 pub enum TouchFault {
     /// It would be the 65th.
+    #[error("the transaction has touched 64 other keys")]
     TooManyKeys,
+    #[error("no memory is left")]
     NoMemory,
 }
 

@@ -27,19 +27,35 @@ fn code(status: Status) -> u8
     }
 }
 
-/// The words of the command line, without the program's name.
-fn words(rt: &(impl Env + AllocGlobal)) -> io::Result<Vec<String>> {
+/// A word that no command line has: it stands for one that is no UTF-8.
+const NO_WORD: &str = "\u{fffd}";
+
+/// The words of the command line, without the program's name; nothing where memory ran out.
+fn words(rt: &(impl Env + AllocGlobal)) -> Option<Vec<String>> {
     let mut words = Vec::new(rt.alloc());
-    for word in env::args(rt)?.skip(1) {
-        words.push(word)?;
+    match env::args(rt) {
+        Ok(all) => {
+            for word in all.skip(1) {
+                words.push(word).ok()?;
+            }
+        }
+        Err(error) => {
+            if error.kind() == io::ErrorKind::OutOfMemory {
+                return None;
+            }
+            words.push(String::from_str(rt.alloc(), NO_WORD).ok()?).ok()?;
+        }
     }
-    Ok(words)
+    Some(words)
 }
 
-fn main(rt: HostRuntime) -> io::Result<ExitCode> {
-    let words = words(&rt)?;
+/// The program ends with no other number than those of `code`.
+fn main(rt: HostRuntime) -> ExitCode {
+    let Some(words) = words(&rt) else {
+        return ExitCode::from(code(Status::Memory));
+    };
     let mut source = StdSource::new(rt.stdin());
     let mut sink = StdSink::new(rt.stdout());
     let end = sim(rt.alloc(), words.as_slice(), &mut source, &mut sink);
-    Ok(ExitCode::from(code(end.status)))
+    ExitCode::from(code(end.status))
 }

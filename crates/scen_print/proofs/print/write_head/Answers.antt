@@ -1,5 +1,5 @@
 use Rattle.std.proofs.lemmas.Bool.{ne_eqb}
-use Rattle.scen_text.proofs.print.write_head.Goals as goal
+use Rattle.scen_print.proofs.print.write_head.Goals as goal
 
 pub returns-else-scenario-eq2 : goal.returns-else-scenario-eq2
 returns-else-scenario-eq2 c =
