@@ -122,7 +122,7 @@ onward s d late p plan f =
 
 -- what is known of the step itself
 record Now (s : Scenario) (d : Draft) (p : PlanStep) : Type 0 where
-  may_follow : may_follow d.place place.Plan ≡ true
+  stands : may_follow d.place place.Plan ≡ true
   moment : is_within 1 1000000 p.moment ≡ true
   rises : rises d.plan p.moment ≡ true
   room : nat_lt (length d.plan) 64 ≡ true

@@ -116,7 +116,7 @@ items_taken s (x ∷ xs) d opened left w f =
 record SessionFits (s : Scenario) (d : Draft) (x : Session) (left : List (Key × ObjectKind)) : Type 0 where
   format : d.format ≡ s.format
   caches : d.caches ≡ s.caches
-  may_follow : may_follow d.place place.Sessions ≡ true
+  stands : may_follow d.place place.Sessions ≡ true
   room : length d.sessions < 64
   new : has_session d.sessions x.name ≡ false
   good : good_session s.caches (members s) x ≡ true

@@ -177,7 +177,7 @@ named s g n h =
 -- what is known where the first step is read
 record Before (s : Scenario) (d : Draft) : Type 0 where
   format : d.format ≡ s.format
-  may_follow : may_follow d.place place.Plan ≡ true
+  stands : may_follow d.place place.Plan ≡ true
   caches : d.caches ≡ filter (λ cache. cache.first) s.caches
   sum : d.partitions + sum_by (λ cache. cache.parts) (filter is_started s.caches) ≤ 1024
   members : d.members ≡ s.nodes
