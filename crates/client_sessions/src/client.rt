@@ -5,8 +5,8 @@ ghost use Rattle.client_sessions.specs.Desks.{answer_kept, client_after_answer, 
 
 use crate::course::Course;
 use crate::sequences::Sequences;
-use part_model::Phase;
 use ignite_types::{Answer, Command, Item, List, Mem};
+use part_model::Phase;
 use session_scripts::command_of;
 use std::alloc::Global;
 use std::marker::Model;

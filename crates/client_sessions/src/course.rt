@@ -6,8 +6,8 @@ ghost use Rattle.client_sessions.specs.Sequences.{HasRoom, KeepsRoom};
 ghost use Rattle.client_sessions.specs.Courses.{progress_of};
 
 use crate::sequences::Sequences;
-use part_model::Phase;
 use ignite_types::{Answer, Item, Mem};
+use part_model::Phase;
 use session_scripts::{item_end, phase_after};
 use std::alloc::Global;
 

@@ -6,9 +6,9 @@ ghost use Rattle.client_sessions.specs.Sequences.{HasRoom, HasRoomFor, KeepsRoom
 ghost use Rattle.ignite_types.specs.Names.{key_cmp};
 ghost use Rattle.ordered_table.specs.Entries.{at, put, without};
 
-use part_model::Range;
 use ignite_types::{Answer, Item, Key, Mem};
 use ordered_table::Table;
+use part_model::Range;
 use session_scripts::{answer_number, range_of};
 use std::alloc::Global;
 use std::marker::Model;

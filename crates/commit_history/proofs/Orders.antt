@@ -8,10 +8,9 @@ use Rattle.std.proofs.lemmas.Cmp.{nat_cmp_total, nat_list_cmp_total}
 use Rattle.std.proofs.lemmas.Map.Lookups.{exact_unsigned}
 use Rattle.part_model.specs.Tables.{keys_in}
 use Rattle.ignite_types.proofs.NameLaws.{exact_nodes, exact_txs, node_total, same_node_itself, same_tx_itself, tx_total}
-use Rattle.ignite_types.specs.Names.{key_cmp, node_cmp, same_node, same_tx, tx_cmp}
+use Rattle.ignite_types.specs.Names.{node_cmp, same_node, same_tx, tx_cmp}
 use Rattle.ignite_types.specs.declared.names.NodeId.{NodeId}
 use Rattle.ignite_types.specs.declared.names.TxId.{TxId}
-use Rattle.ignite_types.specs.declared.text.Key.{Key}
 use Rattle.ordered_set.specs.Members.{has, with_member}
 use Rattle.ordered_table.proofs.Laws as laws
 use Rattle.ordered_table.specs.Entries.{at, put}

@@ -8,7 +8,6 @@ use Rattle.commit_history.specs.Lines.{line_after, line_after_call, new_line, tx
 use Rattle.commit_history.specs.declared.line.Line.{Line}
 use Rattle.commit_history.specs.declared.walks.Walks.{Walks}
 use Rattle.ignite_types.specs.Names.{key_cmp, node_cmp, same_node, same_tx, tx_cmp}
-use Rattle.ignite_types.specs.Placement.{capped}
 use Rattle.ignite_types.specs.declared.answer.Answer.{Answer}
 use Rattle.ignite_types.specs.declared.journal.Group.{Group}
 use Rattle.ignite_types.specs.declared.journal.Rec.{Rec}

@@ -6,9 +6,8 @@ use Rattle.std.specs.declared.cmp.Ordering.TheVariants.{Less, Equal, Greater}
 use Rattle.std.proofs.lemmas.Bool.Decides.{nat_tests}
 use Rattle.std.proofs.lemmas.Cmp.{nat_cmp_total, nat_list_cmp_total}
 use Rattle.ignite_types.proofs.NameLaws.{same_tx_itself, same_tx_true}
-use Rattle.ignite_types.specs.Names.{key_cmp, same_tx, tx_cmp}
+use Rattle.ignite_types.specs.Names.{same_tx}
 use Rattle.ignite_types.specs.declared.names.TxId.{TxId}
-use Rattle.ignite_types.specs.declared.text.Key.{Key}
 
 module _ {K : Type 0} (cmp : K → K → Ordering) (exact : (x y : K) → cmp x y ≡ Equal → x ≡ y) where
   -- two names are the same or compare unequal

@@ -8,7 +8,7 @@ use Rattle.std.proofs.lemmas.Cmp.{nat_cmp_total, nat_list_cmp_total}
 use Rattle.act_rows.specs.Primary.{candidate_of, or_changed}
 use Rattle.part_model.specs.Queues.{Queues, blocked_by, first_blocked, other_owner, owner_in, queue_in, queues_with, with_queue_in}
 use Rattle.ignite_types.proofs.NameLaws.{key_total, same_tx_itself}
-use Rattle.ignite_types.specs.Names.{key_cmp, same_tx}
+use Rattle.ignite_types.specs.Names.{key_cmp}
 use Rattle.ignite_types.specs.declared.answer.Fail.{Fail}
 use Rattle.ignite_types.specs.declared.names.TxId.{TxId}
 use Rattle.ignite_types.specs.declared.text.Key.{Key}

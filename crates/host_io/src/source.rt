@@ -7,8 +7,8 @@ ghost use Rattle.host_io.specs.ReadEnd.{EndsEarly, read_end_text};
 ghost use Rattle.host_io.specs.declared.source.ReadEnd.TheVariants.{Fault, NoMemory as WantOfMemory};
 
 use crate::failed::Failed;
-use ignite_types::limits::TEXT_BYTES;
 use ignite_types::NoMemory;
+use ignite_types::limits::TEXT_BYTES;
 use std::alloc::{AllocError, Global};
 use std::fmt;
 

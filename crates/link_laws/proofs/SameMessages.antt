@@ -7,7 +7,7 @@ use Rattle.part_model.specs.Copies.{Found}
 use Rattle.part_model.specs.Cycles.{same_wait}
 use Rattle.part_model.specs.Orders.{same_share}
 use Rattle.ignite_types.proofs.NameLaws.{same_key_itself, same_node_itself, same_top_itself, same_tx_itself}
-use Rattle.ignite_types.specs.Names.{same_key, same_node, same_top, same_tx}
+use Rattle.ignite_types.specs.Names.{same_key, same_node, same_tx}
 use Rattle.ignite_types.specs.declared.answer.Fail.{Fail}
 use Rattle.ignite_types.specs.declared.message.Message.{Message}
 use Rattle.ignite_types.specs.declared.message.Orphan.{Orphan}
@@ -15,9 +15,6 @@ use Rattle.ignite_types.specs.declared.message.Stored.{Stored}
 use Rattle.ignite_types.specs.declared.message.Wait.{Wait}
 use Rattle.ignite_types.specs.declared.message.Wanted.{Wanted}
 use Rattle.ignite_types.specs.declared.names.CacheVersion.{CacheVersion}
-use Rattle.ignite_types.specs.declared.names.NodeId.{NodeId}
-use Rattle.ignite_types.specs.declared.names.TopVer.{TopVer}
-use Rattle.ignite_types.specs.declared.names.TxId.{TxId}
 use Rattle.ignite_types.specs.declared.placement.PartMap.{PartMap}
 use Rattle.ignite_types.specs.declared.placement.Row.{Row}
 use Rattle.ignite_types.specs.declared.placement.Share.{Share}

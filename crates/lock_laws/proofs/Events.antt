@@ -22,7 +22,7 @@ use Rattle.lock_laws.proofs.Journals.{nobodys_pass, own_pass, split_pass}
 use Rattle.lock_laws.proofs.Parts.{are_apart_set, first_passes, nobody_tells, set_tells}
 use Rattle.node_state.specs.Node.{NodeState}
 use Rattle.tx_model.specs.World as world
-use Rattle.tx_model.specs.World.{Part, World, if_alive, inbox_on, is_alive, live_place, live_session_place, outcome_of_act, part_at, part_on, place_of, plan_outcome_with, session_node, with_directory, with_inbox}
+use Rattle.tx_model.specs.World.{Part, World, if_alive, inbox_on, is_alive, live_place, outcome_of_act, part_at, part_on, place_of, with_directory, with_inbox}
 use Rattle.ignite_types.specs.declared.journal.TopoEvent.TheVariants as topo
 
 -- the node at a place that was found for its number

@@ -30,7 +30,7 @@ use Rattle.ordered_table.specs.Places.{IsAscending, IsBelowAll}
 use Rattle.tx_model.specs.Opening.{declared_nodes, ids_of, opening, opening_parts, session_nodes_from}
 use Rattle.tx_model.specs.Runs.{AreSteps}
 use Rattle.tx_model.specs.World as world
-use Rattle.tx_model.specs.World.{Part, World, inbox_on, live_place, outcome, part_on, session_node}
+use Rattle.tx_model.specs.World.{World, inbox_on, live_place, outcome, part_on, session_node}
 use Rattle.ignite_types.specs.declared.journal.Event.TheVariants as event
 
 module _ (s : Scenario) (noted : List Noted) where

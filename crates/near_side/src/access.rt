@@ -9,11 +9,11 @@ use crate::entries::{ask_lock, ask_value, keep_read, keep_write, set_outcome, to
 use crate::nears::{near_entry, near_of, put_near, with_front};
 use crate::preparing::commit;
 use crate::values::{access_key, answer_of};
-use part_model::NearEntry;
 use ignite_types::limits::TRANSACTION_KEYS;
 use ignite_types::{Answer, Command, Fault, Key, Mem, Message, Mode, NodeId, TopVer, TxId, Value};
 use node_state::Read;
 use node_steps::Node;
+use part_model::NearEntry;
 use session_scripts::added;
 use tx_decisions::{decide, fail};
 

@@ -19,5 +19,5 @@ pub use replies::{
     on_get_ok, on_lock_ok, on_near_backup_finished, on_near_finished, on_near_update,
     on_prepare_fail, on_prepared,
 };
-pub use sessions::{answer_at, call_at, session_state_over, on_answer};
+pub use sessions::{answer_at, call_at, on_answer, session_state_over};
 pub use starts::start_all;

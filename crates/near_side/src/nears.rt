@@ -4,9 +4,9 @@ ghost use Rattle.std.specs.Prelude.{◌≡◌, ◌++◌, OnOk, IfOk, [], ◌∷�
 ghost use Rattle.part_model.specs.NearEntries.{is_updated, near_entry, near_front, near_put, near_renewed, near_updated, others_than};
 ghost use Rattle.act_rows.specs.Steps.{near_of, with_near};
 
-use part_model::NearEntry;
 use ignite_types::{CacheVersion, Key, List, Mem, Value};
 use node_steps::Node;
+use part_model::NearEntry;
 use std::alloc::Global;
 
 /// The near cache of a key's cache.

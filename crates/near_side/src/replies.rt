@@ -8,13 +8,13 @@ use crate::access::do_known;
 use crate::entries::{got_value, keep_read, no_longer_await, set_state};
 use crate::nears::{near_of, put_near, updated, with_put};
 use crate::values::{access_key, read_of};
-use part_model::NearEntry;
 use ignite_types::{
     CacheVersion, Command, Fail, Fault, Found, Key, Mem, Message, NodeId, Share, TopVer, TxId,
     Value,
 };
 use node_state::{SessionState, TxState};
 use node_steps::Node;
+use part_model::NearEntry;
 use tx_decisions::fail;
 
 /// A read keeps what was found.

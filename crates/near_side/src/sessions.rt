@@ -89,7 +89,12 @@ fn hand_over(node: &mut Node, session: u32, answer: &Answer) -> Mem<()>
     let Some(mut session_state) = node.take_session_state(session) else {
         return Ok(());
     };
-    session_state.progress = advance(node.alloc, session_state.script.as_slice(), &session_state.progress, answer)?;
+    session_state.progress = advance(
+        node.alloc,
+        session_state.script.as_slice(),
+        &session_state.progress,
+        answer,
+    )?;
     session_state.pending = None;
     session_state.wake = None;
     session_state.ready = None;

@@ -43,7 +43,11 @@ pub fn opening_map_of(alloc: Global, scenario: &Scenario) -> Mem<PartMap>
 }
 
 /// The sessions on a node, by their numbers from 1.
-fn session_states_on(alloc: Global, id: NodeId, sessions: &[Session]) -> Mem<Table<u32, SessionState>>
+fn session_states_on(
+    alloc: Global,
+    id: NodeId,
+    sessions: &[Session],
+) -> Mem<Table<u32, SessionState>>
     ensures { IfOk result (λ session_states. session_states ≡ session_states_on id 1 [] sessions.now) }
 {
     let mut session_states = Table::new(alloc);

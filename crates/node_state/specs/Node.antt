@@ -31,7 +31,6 @@ pub record NodeState : Type 0 where
   pub now : ℕ
   -- the caches of the scenario
   pub caches : List Cache
-
   -- how many topology events the node has read, or learned when it joined
   pub read : ℕ
   -- the last topology version that the node has seen, and its members by age
@@ -44,14 +43,12 @@ pub record NodeState : Type 0 where
   pub installed : Option PartMap
   -- the last version that was opened here
   pub opened : Option TopVer
-
   -- the node's sessions, by their number
   pub session_states : List (ℕ × SessionState)
   -- the transactions that were started here and have not ended, or whose fault is not told yet, by their names
   pub txs : List (TxId × TxEntry)
   -- the near cache of each cache that has one, by the cache's number; the most recent entry first
   pub near : List (ℕ × NearCache)
-
   -- the copies of all partitions, by their number
   pub stores : List Copy
   -- for each key that is held the transactions at its lock: the first owns it, the others wait
@@ -64,7 +61,6 @@ pub record NodeState : Type 0 where
   pub shares : List (TxId × OwnShare)
   -- the shares held for other primaries
   pub backups : List (BackupName × BackupShare)
-
   -- the last version for which a Single was sent
   pub single_sent : Option TopVer
   -- the Singles that came, in their order
@@ -75,13 +71,11 @@ pub record NodeState : Type 0 where
   pub complete : List ℕ
   -- the claims that came under the installed map or a later one, ascending
   pub claims : List Claim
-
   pub round : Option Round
   -- the lists of orphans that came
   pub reports : List Report
   -- the verdicts that this node has given
   pub verdicts : List (TxId × Bool)
-
   -- the messages that wait to be sent, the oldest first
   pub outbox : List Out
   -- the records noted in the act in work

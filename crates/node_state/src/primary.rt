@@ -1,9 +1,9 @@
 //! What a node keeps of transactions as a primary, and as a backup or mover of other primaries.
 
-use part_model::Entry;
 use ignite_types::{Key, List, NodeId, Share, ShareState, Stored, TopVer, TxId};
 use ordered_set::Set;
 use ordered_table::Table;
+use part_model::Entry;
 
 /// One partition's copy.
 pub type Store = Table<Key, Entry>;

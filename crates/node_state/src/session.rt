@@ -1,7 +1,7 @@
 //! What a node keeps of a session.
 
-use part_model::Progress;
 use ignite_types::{Answer, Command, Item, List, TxId};
+use part_model::Progress;
 
 /// A session and how far it has come in its script.
 #[derive(Debug, Drop)]

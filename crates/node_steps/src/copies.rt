@@ -8,9 +8,9 @@ ghost use Rattle.ignite_types.specs.Names.{key_cmp};
 ghost use Rattle.ordered_table.specs.Entries.{at};
 
 use crate::tables::remove_each;
-use part_model::Entry;
 use ignite_types::{Found, Key, List, Mem, Stored};
 use node_state::Store;
+use part_model::Entry;
 use std::alloc::Global;
 use std::cmp::Ordering;
 

@@ -20,4 +20,4 @@ pub use queues::{
     Queues, edges_of, enqueue, first_blocked, keys_of, leave_queue, owner_in, standing_in,
     stands_in,
 };
-pub use tables::{new_session_state, new_entry, new_progress, remove_each};
+pub use tables::{new_entry, new_progress, new_session_state, remove_each};

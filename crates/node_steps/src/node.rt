@@ -1,12 +1,12 @@
 //! The node.
 
-use part_model::NearEntry;
 use ignite_types::{Cache, Key, List, Member, NodeId, Out, PartMap, Rec, Single, TopVer, TxId};
 use node_state::{
-    BackupName, BackupShare, Claim, SessionState, Exchange, OwnShare, Report, Round, Store, TxEntry,
+    BackupName, BackupShare, Claim, Exchange, OwnShare, Report, Round, SessionState, Store, TxEntry,
 };
 use ordered_set::Set;
 use ordered_table::Table;
+use part_model::NearEntry;
 use std::alloc::Global;
 use std::marker::Model;
 

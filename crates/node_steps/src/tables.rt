@@ -9,11 +9,11 @@ ghost use Rattle.act_rows.specs.Steps.{backup_name, entry_of, session_state_of, 
 ghost use Rattle.node_steps.specs.Taking.{TakesSessionState, TakesEntry, TakesNoSessionState, TakesNoEntry, TakesNoShare, TakesShare, vacant_share};
 
 use crate::node::Node;
-use part_model::{Phase, Progress};
 use ignite_types::{Answer, Item, List, Mem, Mode, NodeId, ShareState, TopVer, TxId};
-use node_state::{BackupName, BackupShare, SessionState, OwnShare, TxEntry, TxState};
+use node_state::{BackupName, BackupShare, OwnShare, SessionState, TxEntry, TxState};
 use ordered_set::Set;
 use ordered_table::Table;
+use part_model::{Phase, Progress};
 use std::alloc::Global;
 
 /// Takes these keys out of a table.

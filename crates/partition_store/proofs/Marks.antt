@@ -10,7 +10,6 @@ use Rattle.part_model.specs.Copies.{Copy, is_tombstone, without_tombstones}
 use Rattle.part_model.specs.Tables.{keys_where, without_each}
 use Rattle.ignite_types.proofs.NameLaws.{key_total}
 use Rattle.ignite_types.specs.Names.{key_cmp}
-use Rattle.ignite_types.specs.declared.text.Key.{Key}
 use Rattle.ordered_table.specs.Entries.{without}
 use Rattle.ordered_table.specs.Places.{IsBelowAll, IsAscending}
 

@@ -6,9 +6,9 @@ ghost use Rattle.part_model.specs.Orders.{is_lower};
 ghost use Rattle.ignite_types.specs.Names.{key_cmp};
 ghost use Rattle.ordered_table.specs.Entries.{at};
 
-use part_model::Entry;
 use hash_table::{EntryTest, HashTable};
 use ignite_types::{CacheVersion, Found, Key, List, Mem, Stored};
+use part_model::Entry;
 use std::alloc::Global;
 use std::cmp::Ordering;
 use std::marker::Model;

@@ -4,8 +4,8 @@ ghost use Rattle.std.specs.Prelude.{◌≡◌, ◌-◌, ◌∷◌, ◌++◌, dec
 ghost use Rattle.scen_print.specs.Items.{key_text};
 ghost use Rattle.report_text.specs.Answers.{answer_text, cache_name, fail_text, fault_text, item_told_text, nodes_text, session_name, top_text, tx_text, version_text};
 
-use part_model::Told;
 use ignite_types::{Answer, CacheVersion, Fail, Fault, Key, Mem, NodeId, Scenario, TopVer, TxId};
+use part_model::Told;
 use scen_print::{TextOut, write_key};
 
 /// Writes one byte and a number.

@@ -7,9 +7,9 @@ ghost use Rattle.report_text.specs.Sessions as sessions;
 
 use crate::answers::{write_node, write_told};
 use crate::digest::Given;
-use part_model::{Phase, Progress, Told};
 use ignite_types::{Answer, Item, List, Mem, Scenario, Session};
 use ordered_table::Table;
+use part_model::{Phase, Progress, Told};
 use scen_print::{TextOut, write_item};
 use session_scripts::advance_told;
 use std::alloc::Global;

@@ -53,7 +53,8 @@ fn scenario(alloc: Global) -> Result<Scenario, Fail> {
 #[test]
 fn prints_a_scenario(rt: HostRuntime) -> Result<(), Fail> {
     let text = print_scenario(rt.alloc(), &scenario(rt.alloc())?)?;
-    let lines = b"scenario 1\nparts 4\nbackups 1\nnear 0\nserver 1\nclient 9\nplan 4 hold 9 1\nsession A 9\nput a 1\nend\n";
+    let lines =
+        b"scenario 1\nparts 4\nbackups 1\nnear 0\nserver 1\nclient 9\nplan 4 hold 9 1\nsession A 9\nput a 1\nend\n";
     assert_eq!(rt; text.as_slice(), lines.as_slice());
     Ok(())
 }

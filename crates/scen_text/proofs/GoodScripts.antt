@@ -6,7 +6,7 @@ use Rattle.std.proofs.lemmas.Bool.{and_parts, and_from, or_left, or_right, eqb-t
 use Rattle.std.proofs.lemmas.List.Folds.{list_any-append}
 use Rattle.std.proofs.lemmas.List.Elements.{filter_map-append}
 use Rattle.std.proofs.lemmas.Slice.Eq.{bytes_eq-Decides}
-use Rattle.ignite_types.specs.Good.{ObjectKind, agree_in_kind, good_blocks, good_command, good_item, good_key, good_kinds, good_object, good_value, is_name, is_plain, is_text, object_of, open_behind}
+use Rattle.ignite_types.specs.Good.{ObjectKind, agree_in_kind, good_blocks, good_command, good_item, good_key, good_kinds, good_object, good_value, is_name, is_plain, object_of, open_behind}
 use Rattle.ignite_types.specs.Good as good
 use Rattle.ignite_types.specs.declared.names.NodeId.{NodeId}
 use Rattle.ignite_types.specs.declared.text.Key.{Key}

@@ -4,8 +4,8 @@ ghost use Rattle.std.specs.Prelude.{◌≡◌};
 ghost use Rattle.part_model.specs.Script.{answer_number, first_number, head_after, if_committed, item_end, number_between, offer_after, offer_end, phase_after, phase_or_undone, poll_after, poll_end};
 
 use crate::numbers::{number_of, number_value};
-use part_model::{Phase, Told};
 use ignite_types::{Answer, Item};
+use part_model::{Phase, Told};
 
 /// The number that was found.
 pub fn answer_number(answer: &Answer) -> Option<i64>

@@ -4,8 +4,8 @@ ghost use Rattle.std.specs.Prelude.{◌≡◌};
 ghost use Rattle.part_model.specs.Script.{command_at, command_of, offer_command, poll_command};
 
 use crate::keys::{head_key, item_key, tail_key};
-use part_model::{Phase, Progress};
 use ignite_types::{Command, Item, Key, Mode, Value};
+use part_model::{Phase, Progress};
 
 fn offer_command(object: &Key, value: &Value, phase: &Phase) -> Command
     ensures { result ≡ offer_command object.now value.now phase.now }

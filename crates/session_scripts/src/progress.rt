@@ -6,8 +6,8 @@ ghost use Rattle.part_model.specs.Script.{advance, advance_past_numbers};
 use crate::answers::{item_end, phase_after};
 use crate::numbers::number_value;
 use crate::ranges::{copied, keep_range, left_for, take_first};
-use part_model::{Phase, Progress, Told};
 use ignite_types::{Answer, Item, List, Mem};
+use part_model::{Phase, Progress, Told};
 use std::alloc::Global;
 
 /// Passes over the items that need no command, and tells their numbers.

@@ -4,9 +4,9 @@ ghost use Rattle.std.specs.Prelude.{◌≡◌, IfOk, OnOk};
 ghost use Rattle.part_model.specs.Script.{numbers_left_for, range_of, ranges_after, unless_used_up, with_range, without_first};
 
 use crate::answers::answer_number;
-use part_model::Range;
 use ignite_types::{Answer, Item, Key, Mem};
 use ordered_table::Table;
+use part_model::Range;
 use std::alloc::Global;
 
 /// A copy of the numbers that are left.

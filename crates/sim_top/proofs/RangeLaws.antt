@@ -3,7 +3,7 @@ use Rattle.std.proofs.Common.{◌≡◌, ◌≤◌, ◌&&◌, ℕ, Bool, true, f
 use Rattle.std.specs.Option.{option_map}
 use Rattle.std.specs.Str.Parse.{digits_value}
 use Rattle.std.proofs.lemmas.Bool.{leb-true, and_parts}
-use Rattle.command_words.specs.Line.{agree, asked_by, is_number_text, line, made, number_in_range, number_or}
+use Rattle.command_words.specs.Line.{asked_by, is_number_text, line, made, number_in_range, number_or}
 use Rattle.command_words.specs.Line as words
 use Rattle.command_words.specs.Options as name
 use Rattle.command_words.specs.Options.{Given, Text, is_given, options, value_given, ◌>>=◌}

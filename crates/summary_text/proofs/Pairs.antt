@@ -2,7 +2,7 @@
 use Rattle.std.proofs.Common.{◌≡◌, ◌≤◌, zero, suc, List, [], ◌∷◌, ◌++◌, append-nil, arith, drop, length, map, String, Global, string_bytes, Bool, false, Option, Some, None, ℕ, refl, ap, sym, ◌∙◌}
 use Rattle.ignite_types.specs.declared.scenario.Scenario.{Scenario}
 use Rattle.ignite_types.specs.declared.text.Key.{Key}
-use Rattle.serde_json.specs.Data.{Data, Items, Members, array, item, items_depth, member, no_items, no_members, null, object, put, string}
+use Rattle.serde_json.specs.Data.{Data, Members, item, member, no_members, put}
 use Rattle.serde_json.specs.View.{items_of, items_view, members_view, view}
 use Rattle.serde_json.specs.Written.{has_float, items_have_float, members_have_float}
 use Rattle.serde_json.specs.declared.value.Value.{Value}

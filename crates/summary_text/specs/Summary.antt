@@ -12,7 +12,6 @@ use Rattle.ignite_types.specs.declared.scenario.Command.TheVariants.{Commit}
 use Rattle.ignite_types.specs.declared.scenario.Item.{Item}
 use Rattle.ignite_types.specs.declared.scenario.Item.TheVariants.{Plain}
 use Rattle.ignite_types.specs.declared.scenario.Session.{Session}
-use Rattle.ignite_types.specs.declared.text.Key.{Key}
 use Rattle.report_text.specs.Digests.{digest}
 use Rattle.report_text.specs.Endings.{end_status, top_line}
 use Rattle.report_text.specs.Histories.{caches_of, shown_entries}

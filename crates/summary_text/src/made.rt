@@ -6,8 +6,8 @@ ghost use Rattle.part_model.specs.Script.{no_progress};
 ghost use Rattle.report_text.specs.Sessions as sessions;
 ghost use Rattle.summary_text.specs.Summary as summaries;
 
-use part_model::Told;
 use ignite_types::{Answer, Command, Item, Journal, Key, List, Mem, Session, Value};
+use part_model::Told;
 use report_text::{
     Given, all_told, answers_to, digest_of, end_status, shown_map, write_count, write_top_line,
 };

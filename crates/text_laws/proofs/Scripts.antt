@@ -6,7 +6,7 @@ use Rattle.std.specs.List.{cons_option, list_all}
 use Rattle.std.proofs.lemmas.Bool.{and_parts, and_from, leb-true, not-true, not_from_true, cond_both, eqb-true}
 use Rattle.std.proofs.lemmas.List.Folds.{list_all-append}
 use Rattle.ignite_types.specs.Good as good
-use Rattle.ignite_types.specs.Good.{Long, ObjectKind, Queue, Sequence, are_distinct, good_blocks, good_cache, good_command, good_format, good_item, good_key, good_kinds, good_object, good_session, good_value, has_cache_line, has_member, is_data_cache, is_default, is_name, is_name_byte, is_plain, is_plain_cache, is_text, is_within, members, object_of, open_behind, same_cache_name, same_session_name}
+use Rattle.ignite_types.specs.Good.{Long, ObjectKind, Queue, Sequence, are_distinct, good_cache, good_format, good_item, good_key, good_kinds, good_object, good_value, has_cache_line, is_data_cache, is_default, is_name, is_name_byte, is_plain, is_plain_cache, is_text, object_of, open_behind, same_cache_name}
 use Rattle.ignite_types.specs.Texts.{is_key_byte}
 use Rattle.ignite_types.specs.declared.text.Key.{Key}
 use Rattle.ignite_types.specs.declared.scenario.Cache.{Cache}

@@ -45,7 +45,10 @@ pub fn tell(node: &mut Node, tx: TxId, fault: &Fault, command: &Command) -> Mem<
     let Some(session_state) = node.take_session_state(tx.session) else {
         return Ok(());
     };
-    node.put_session_state(tx.session, told_session_state(fault, command, session_state))
+    node.put_session_state(
+        tx.session,
+        told_session_state(fault, command, session_state),
+    )
 }
 
 /// The fault is kept until a command asks for it.

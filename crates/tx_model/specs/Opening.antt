@@ -3,25 +3,18 @@ use Rattle.std.specs.List.{flat_map}
 use Rattle.std.specs.Ordering.{nat_cmp}
 use Rattle.std.specs.Prelude.{Bool, None, Option, Some, [], false, if◌then◌else◌, map, true, ℕ, ◌++◌, ◌∷◌}
 use Rattle.act_rows.specs.NewNodes.{opening_map_of, opening_node}
-use Rattle.part_model.specs.Copies.{Copy}
-use Rattle.part_model.specs.Directory.{first_top, node_set, opening_directory, running_from}
+use Rattle.part_model.specs.Directory.{node_set, opening_directory}
 use Rattle.part_model.specs.Links.{Inbox, new_inbox}
-use Rattle.part_model.specs.NextMap.{is_member, servers}
-use Rattle.ignite_types.specs.Affinity.{opening_map}
-use Rattle.ignite_types.specs.Good.{members}
-use Rattle.ignite_types.specs.Names.{same_node}
+use Rattle.part_model.specs.NextMap.{is_member}
 use Rattle.ignite_types.specs.Placement.{capped}
 use Rattle.ignite_types.specs.declared.list.List.{List}
 use Rattle.ignite_types.specs.declared.names.NodeId.{NodeId}
 use Rattle.ignite_types.specs.declared.placement.PartMap.{PartMap}
-use Rattle.ignite_types.specs.declared.placement.Row.{Row}
 use Rattle.ignite_types.specs.declared.scenario.Member.{Member}
 use Rattle.ignite_types.specs.declared.scenario.PlanStep.{PlanStep}
 use Rattle.ignite_types.specs.declared.scenario.Scenario.{Scenario}
 use Rattle.ignite_types.specs.declared.scenario.Session.{Session}
 use Rattle.ignite_types.specs.declared.scenario.Step.{Step}
-use Rattle.node_state.specs.Node.{NodeState}
-use Rattle.node_state.specs.declared.session.SessionState.{SessionState}
 use Rattle.ordered_table.specs.Entries.{put}
 use Rattle.tx_model.specs.World.{Part, World, node_ids}
 use Rattle.node_state.specs.declared.life.Life.TheVariants as life

@@ -6,8 +6,7 @@ use Rattle.std.specs.Cmp.{IsTotalOrder, then_total, on_total}
 use Rattle.std.specs.Ordering.{ordering_reverse}
 use Rattle.std.proofs.lemmas.Cmp.{nat_cmp_total, nat_list_cmp_total, tied_itself}
 use Rattle.ignite_types.proofs.NameLaws.{key_total}
-use Rattle.ignite_types.specs.Names.{key_cmp, tx_cmp}
-use Rattle.ignite_types.specs.declared.names.TxId.{TxId}
+use Rattle.ignite_types.specs.Names.{key_cmp}
 use Rattle.ignite_types.specs.declared.text.Key.{Key}
 use Rattle.ordered_table.specs.Entries.{at, put}
 use Rattle.ordered_table.specs.Places.{IsBelowAll, IsAscending}

@@ -1,7 +1,5 @@
 use Rattle.std.proofs.Common.{subst, IfOk, OnOk, ◌≡◌}
 use Rattle.act_rows.specs.Acts.{see_act}
-use Rattle.ignite_types.specs.declared.journal.Rec.{Rec}
-use Rattle.ignite_types.specs.declared.list.List.{List}
 use Rattle.node_state.specs.Node.{NodeState}
 use Rattle.node_core.proofs.acts.join.Goals as goal
 

@@ -1,11 +1,10 @@
 use Rattle.std.proofs.Common.{◌≡◌, ℕ, ◌<◌, None, OnOk, IfOk, Some, ap, length, refl, rules, subst, sym, ◌∙◌, List}
-use Rattle.part_model.specs.Directory.{Directory}
 use Rattle.ignite_types.specs.declared.journal.Rec.{Rec}
 use Rattle.ignite_types.specs.declared.journal.TopoEvent.{TopoEvent}
 use Rattle.ignite_types.specs.declared.journal.TopoEvent.TheVariants as topo
 use Rattle.act_rows.specs.Acts.{Acted, join_act}
 use Rattle.node_state.specs.declared.life.Life.TheVariants as life
-use Rattle.tx_model.specs.World.{Part, join_outcome, part_on, plan_outcome_with}
+use Rattle.tx_model.specs.World.{join_outcome, part_on, plan_outcome_with}
 use Rattle.world_core.specs.Run.{Run}
 use Rattle.world_core.specs.contracts.world.World.{the_view}
 use Rattle.world_core.proofs.ActsLaws.{entered, joins_recs, joins_world, own_join, there_is}

@@ -1,6 +1,6 @@
 use Rattle.std.proofs.Common.{◌≡◌, ◌<◌, ap, length, rules, slice_set, subst, sym, ◌∙◌, Some, None, Option}
-use Rattle.part_model.specs.Links.{Inbox, oldest_in}
-use Rattle.tx_model.specs.World.{Outcome, Part, act_outcome, inbox_on, part_on}
+use Rattle.part_model.specs.Links.{oldest_in}
+use Rattle.tx_model.specs.World.{Part, act_outcome, inbox_on, part_on}
 use Rattle.world_core.specs.Run.{Run}
 use Rattle.world_core.specs.contracts.world.World.{the_view}
 use Rattle.world_core.proofs.ActsLaws.{inbox_is, takes_recs, takes_world, there_is}
