@@ -1,5 +1,5 @@
 -- What a starter does for the accesses of its transactions: each step extends the node.
-use Rattle.std.proofs.Common.{Bool, Err, List, [], ◌∷◌, None, Ok, Option, Result, Some, false, true}
+use Rattle.std.proofs.Common.{Bool, Err, List, [], ◌∷◌, None, Ok, Option, Result, Some, false, true, refl}
 use Rattle.std.specs.Prelude.{length, nat_le, ℕ}
 use Rattle.frame_laws.proofs.Decisions.{decides_kept, fails_kept}
 use Rattle.frame_laws.proofs.Steps.{answered_kept, on_entry_kept, with_near_kept}
@@ -35,6 +35,7 @@ use Rattle.ignite_types.specs.declared.answer.Fault.TheVariants as fault
 use Rattle.ignite_types.specs.declared.scenario.Mode.TheVariants as mode
 use Rattle.ignite_types.specs.declared.message.Message.TheVariants as msg
 use Rattle.node_state.specs.declared.near.TxState.TheVariants as state
+use Rattle.frame_laws.proofs.Plain.{prepare_plain}
 use Rattle.frame_laws.specs.Kits.{ClosedUnderSteps}
 use Rattle.frame_laws.proofs.Kits.{either_kept, sent_kept}
 
@@ -83,7 +84,7 @@ module _ (R : NodeState → NodeState → Type 0) (kit : ClosedUnderSteps R) whe
   pub prepares_kept : (s : NodeState) (tx : TxId) (top : TopVer) (entry : TxEntry) (nodes : List NodeId) (shares : List Share) → R s (after_send_prepares s tx top entry nodes shares)
   prepares_kept s tx top entry nodes shares =
       kit.andthen s _ _ (begins_prepare_kept s tx nodes shares)
-      (kit.sent_all (with_preparing s tx nodes shares) (prepare_outs s tx top entry shares nodes))
+      (kit.sent_all (with_preparing s tx nodes shares) (prepare_outs s tx top entry shares nodes) (prepare_plain s tx top entry shares nodes))
 
   pub commits_with_kept : (s : NodeState) (tx : TxId) (top : TopVer) (entry : TxEntry) (keys : List Key) → R s (after_commit_of_keys s tx top entry keys)
   commits_with_kept s tx top entry [] = decides_kept R kit s tx true
@@ -133,7 +134,7 @@ module _ (R : NodeState → NodeState → Type 0) (kit : ClosedUnderSteps R) whe
       (does_known_kept (after_near_hit (with_touched s tx key) tx key e) tx top block c))
   optimistic_read_kept s tx top block c key primary None =
       let near = is_near_kept s key in
-      kit.andthen s _ _ (asks_value_kept s tx key near) (sent_kept R kit (with_value_asked s tx key near) primary (msg.Get tx key near))
+      kit.andthen s _ _ (asks_value_kept s tx key near) (sent_kept R kit (with_value_asked s tx key near) primary (msg.Get tx key near) refl)
 
   pub optimistic_access_kept : (s : NodeState) (tx : TxId) (top : TopVer) (block : Bool) (c : Command) (key : Key) (primary : NodeId) → R s (after_optimistic_access s tx top block c key primary)
   optimistic_access_kept s tx top block (command.Get k) key primary =
@@ -145,7 +146,7 @@ module _ (R : NodeState → NodeState → Type 0) (kit : ClosedUnderSteps R) whe
 
   pub new_access_kept : (s : NodeState) (tx : TxId) (top : TopVer) (block : Bool) (c : Command) (key : Key) (primary : NodeId) (m : Mode) → R s (after_new_access s tx top block c key primary m)
   new_access_kept s tx top block c key primary mode.Pessimistic =
-      kit.andthen s _ _ (asks_lock_kept s tx key primary) (sent_kept R kit (with_lock_asked s tx key primary) primary (msg.Lock tx top key))
+      kit.andthen s _ _ (asks_lock_kept s tx key primary) (sent_kept R kit (with_lock_asked s tx key primary) primary (msg.Lock tx top key) refl)
   new_access_kept s tx top block c key primary mode.Optimistic = optimistic_access_kept s tx top block c key primary
 
   pub new_key_kept : (s : NodeState) (tx : TxId) (top : TopVer) (block : Bool) (c : Command) (key : Key) (primary : NodeId) (e : TxEntry) → R s (after_new_key s tx top block c key primary e)
@@ -265,4 +266,4 @@ module _ (R : NodeState → NodeState → Type 0) (kit : ClosedUnderSteps R) whe
   pub near_update_row_kept : (s : NodeState) (from : NodeId) (tx : TxId) (key : Key) (new : Option (List ℕ)) (ver : CacheVersion) → R s (after_near_update s from tx key new ver)
   near_update_row_kept s from tx key new ver =
       kit.andthen s _ _ (with_near_kept R kit s key (near_updated (near_of s key) key new ver))
-      (sent_kept R kit (with_near s key (near_updated (near_of s key) key new ver)) from (msg.NearDone tx key))
+      (sent_kept R kit (with_near s key (near_updated (near_of s key) key new ver)) from (msg.NearDone tx key) refl)

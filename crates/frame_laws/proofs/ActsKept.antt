@@ -1,6 +1,6 @@
 -- Every act keeps what each row keeps.
 use Rattle.std.proofs.Common.{ℕ}
-use Rattle.frame_laws.specs.Kits.{ClosedUnderSteps}
+use Rattle.frame_laws.specs.Kits.{ClosedUnderAllSteps, ClosedUnderSteps}
 use Rattle.frame_laws.proofs.Accesses.{get_ok_row_kept, lock_ok_row_kept, near_backup_finished_kept, near_finished_kept, near_update_row_kept, prepare_fail_row_kept, prepared_row_kept}
 use Rattle.frame_laws.proofs.Backups.{backup_finish_row_kept, backup_prepare_row_kept}
 use Rattle.frame_laws.proofs.Closing.{closed_kept}
@@ -29,7 +29,10 @@ use Rattle.node_state.specs.Node.{NodeState}
 use Rattle.ignite_types.specs.declared.journal.TopoEvent.TheVariants as topo
 use Rattle.ignite_types.specs.declared.message.Message.TheVariants as msg
 
-module _ (R : NodeState → NodeState → Type 0) (kit : ClosedUnderSteps R) where
+module _ (R : NodeState → NodeState → Type 0) (all : ClosedUnderAllSteps R) where
+  abbrev kit : ClosedUnderSteps R
+  kit = all.plain
+
   finished_row_kept : (s : NodeState) (from : NodeId) (tx : TxId) → R s (after_finished s from tx)
   finished_row_kept s from tx = kit.andthen s (after_finished_at_starter s from tx) (after_finished s from tx) (near_finished_kept R kit s from tx) (recovery_finished_kept R kit (after_finished_at_starter s from tx) from tx)
 
@@ -58,10 +61,10 @@ module _ (R : NodeState → NodeState → Type 0) (kit : ClosedUnderSteps R) whe
   message_row_kept s from (msg.BackupFinished tx primary) = backup_finished_row_kept s from tx primary
   message_row_kept s from (msg.NearUpdate tx key new ver) = near_update_row_kept R kit s from tx key new ver
   message_row_kept s from (msg.NearDone tx key) = near_done_row_kept R kit s from tx key
-  message_row_kept s from (msg.Single top m complete) = single_row_kept R kit s from top m complete
-  message_row_kept s from (msg.Full m) = full_row_kept R kit s from m
-  message_row_kept s from (msg.Installed top) = installed_row_kept R kit s from top
-  message_row_kept s from (msg.Opens top) = opens_row_kept R kit s top
+  message_row_kept s from (msg.Single top m complete) = single_row_kept R all s from top m complete
+  message_row_kept s from (msg.Full m) = full_row_kept R all s from m
+  message_row_kept s from (msg.Installed top) = installed_row_kept R all s from top
+  message_row_kept s from (msg.Opens top) = opens_row_kept R all s top
   message_row_kept s from (msg.Demand top part after) = demand_row_kept R kit s from top part after
   message_row_kept s from (msg.Supply top part entries last) = supply_row_kept R kit s from top part entries last
   message_row_kept s from (msg.Complete top) = complete_row_kept R kit s from top
@@ -81,14 +84,14 @@ module _ (R : NodeState → NodeState → Type 0) (kit : ClosedUnderSteps R) whe
   brings_kept s place (topo.Stop cache) = kit.nothing s
 
   then_closed_kept : (a b : NodeState) → R a b → R a (after_closing_rules b)
-  then_closed_kept a b first = kit.andthen a b (after_closing_rules b) first (closed_kept R kit b)
+  then_closed_kept a b first = kit.andthen a b (after_closing_rules b) first (closed_kept R all b)
 
   -- what an act brings once it has begun; seeing a topology event is two parts, with its record between them
   pub message_kept : (s : NodeState) (from : NodeId) (m : Message) → R (with_act_begun s) (after_closing_rules (after_message (with_act_begun s) from m))
   message_kept s from m = then_closed_kept (with_act_begun s) (after_message (with_act_begun s) from m) (message_row_kept (with_act_begun s) from m)
 
   pub learning_kept : (s : NodeState) (event : TopoEvent) → R (with_act_begun s) (after_learn (with_act_begun s) event)
-  learning_kept s event = learns_kept R kit (with_act_begun s) event
+  learning_kept s event = learns_kept R all (with_act_begun s) event
 
   pub seen_kept : (s : NodeState) (place : ℕ) (event : TopoEvent) → R s (after_closing_rules (after_event_effects s place event))
   seen_kept s place event = then_closed_kept s (after_event_effects s place event) (brings_kept s place event)

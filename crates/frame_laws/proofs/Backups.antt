@@ -29,7 +29,7 @@ module _ (R : NodeState → NodeState → Type 0) (kit : ClosedUnderSteps R) whe
       let kept = with_backup old tx primary share in
       kit.andthen s kept (with_out kept from (msg.BackupPrepared tx))
       (kit.andthen s old kept (forgetting_kept R kit s tx) (with_backup_kept R kit old tx primary share))
-      (sent_kept R kit kept from (msg.BackupPrepared tx))
+      (sent_kept R kit kept from (msg.BackupPrepared tx) refl)
 
   pub commits_backup_kept : (s : NodeState) (tx : TxId) (primary : NodeId) (h : BackupShare) → R s (after_commit_backup s tx primary h)
   commits_backup_kept s tx primary h = let done = after_apply_each s tx h.top primary h.writes in
@@ -38,7 +38,7 @@ module _ (R : NodeState → NodeState → Type 0) (kit : ClosedUnderSteps R) whe
       (with_backup_kept R kit done tx primary (record h { state = Committed }))
 
   pub drops_backup_kept : (s : NodeState) (tx : TxId) (primary : NodeId) → R s (without_backup s tx primary)
-  drops_backup_kept s tx primary = kit.aside s (without_backup s tx primary) refl refl refl refl refl refl
+  drops_backup_kept s tx primary = kit.aside s (without_backup s tx primary) refl
 
   pub finishes_backup_kept : (s : NodeState) (tx : TxId) (primary : NodeId) (commit : Bool) (h : BackupShare) (st : ShareState) → R s (after_backup_finish_in s tx primary commit h st)
   finishes_backup_kept s tx primary true h Prepared = commits_backup_kept s tx primary h
@@ -56,4 +56,4 @@ module _ (R : NodeState → NodeState → Type 0) (kit : ClosedUnderSteps R) whe
       let after = after_backup_finish_of s tx primary commit (backup_of s tx primary) in
       kit.andthen s after (with_out after from (msg.BackupFinished tx primary))
       (backup_finish_by_kept s tx primary commit (backup_of s tx primary))
-      (sent_kept R kit after from (msg.BackupFinished tx primary))
+      (sent_kept R kit after from (msg.BackupFinished tx primary) refl)

@@ -3,7 +3,7 @@ use Rattle.std.proofs.Common.{List, [], ◌∷◌, Option, Some, None, true, ref
 use Rattle.act_rows.specs.Decisions.{txs_of}
 use Rattle.act_rows.specs.Primary.{after_advance_shares, own_txs}
 use Rattle.act_rows.specs.Starts.{after_start_all}
-use Rattle.act_rows.specs.Steps.{entry_of, oldest_seen}
+use Rattle.act_rows.specs.Steps.{entry_of, oldest_seen, with_out_to_oldest}
 use Rattle.ignite_types.specs.declared.names.NodeId.{NodeId}
 use Rattle.ignite_types.specs.declared.names.TxId.{TxId}
 use Rattle.ignite_types.specs.declared.placement.Share.{Share}
@@ -11,13 +11,13 @@ use Rattle.node_state.specs.declared.near.TxEntry.{TxEntry}
 use Rattle.node_state.specs.declared.near.TxState.{TxState}
 use Rattle.node_state.specs.Node.{NodeState}
 use Rattle.ignite_types.specs.declared.message.Message.TheVariants as msg
+use Rattle.ignite_types.specs.declared.message.Message.{Message}
 use Rattle.node_state.specs.declared.near.TxState.TheVariants as state
 use Rattle.act_rows.specs.Closing.{after_advance_each_tx, after_advance_starter, after_advance_tx, after_advance_tx_in, after_closing_rules, after_phase, after_send_single, after_single_if_drained, owes_single}
 use Rattle.frame_laws.proofs.Primary.{shares_on_kept}
-use Rattle.frame_laws.proofs.Steps.{sent_to_oldest_kept}
 use Rattle.frame_laws.proofs.Decisions.{decides_kept, ends_kept}
 use Rattle.frame_laws.proofs.Starts.{starts_all_kept}
-use Rattle.frame_laws.specs.Kits.{ClosedUnderSteps}
+use Rattle.frame_laws.specs.Kits.{ClosedUnderAllSteps, ClosedUnderSteps}
 use Rattle.frame_laws.proofs.Kits.{either_kept}
 
 module _ (R : NodeState → NodeState → Type 0) (kit : ClosedUnderSteps R) where
@@ -48,12 +48,20 @@ module _ (R : NodeState → NodeState → Type 0) (kit : ClosedUnderSteps R) whe
   pub near_on_kept : (s : NodeState) → R s (after_advance_starter s)
   near_on_kept s = near_on_each_kept s (txs_of s)
 
+module _ (R : NodeState → NodeState → Type 0) (all : ClosedUnderAllSteps R) where
+  abbrev kit : ClosedUnderSteps R
+  kit = all.plain
+
+  to_oldest : (s : NodeState) (m : Message) (to : Option NodeId) → R s (with_out_to_oldest s m to)
+  to_oldest s m None = kit.nothing s
+  to_oldest s m (Some oldest) = all.sends s (record { to = oldest; msg = m } ∷ [])
+
   pub sends_single_kept : (s : NodeState) → R s (after_send_single s)
   sends_single_kept s =
       let marked = record s { single_sent = Some s.seen } in
       kit.andthen s marked (after_send_single s)
-      (kit.aside s marked refl refl refl refl refl refl)
-      (sent_to_oldest_kept R kit marked (msg.Single s.seen s.installed s.complete) (oldest_seen s))
+      (all.changes s marked refl refl refl refl refl refl)
+      (to_oldest marked (msg.Single s.seen s.installed s.complete) (oldest_seen s))
 
   pub single_if_drained_kept : (s : NodeState) → R s (after_single_if_drained s)
   single_if_drained_kept s = either_kept R kit s (after_send_single s) s (owes_single s) (sends_single_kept s) (kit.nothing s)
@@ -65,6 +73,6 @@ module _ (R : NodeState → NodeState → Type 0) (kit : ClosedUnderSteps R) whe
       let started = after_start_all first in
       let second = after_advance_starter started in
       kit.andthen s shared (after_single_if_drained second) (shares_on_kept R kit s (own_txs s))
-      (kit.andthen shared first (after_single_if_drained second) (near_on_kept shared)
+      (kit.andthen shared first (after_single_if_drained second) (near_on_kept R kit shared)
       (kit.andthen first started (after_single_if_drained second) (starts_all_kept R kit first)
-      (kit.andthen started second (after_single_if_drained second) (near_on_kept started) (single_if_drained_kept second))))
+      (kit.andthen started second (after_single_if_drained second) (near_on_kept R kit started) (single_if_drained_kept second))))

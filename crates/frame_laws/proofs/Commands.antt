@@ -89,7 +89,7 @@ module _ (R : NodeState → NodeState → Type 0) (kit : ClosedUnderSteps R) whe
   takes_kept s session d None = kit.nothing s
   takes_kept s session d (Some c) =
       kit.andthen s _ _ (pends_kept s session c)
-      (kit.andthen _ _ _ (kit.noting (with_pending s session c) (note.Call session c) refl refl)
+      (kit.andthen _ _ _ (kit.noting (with_pending s session c) (note.Call session c) refl refl refl)
       (command_row_kept (with_note (with_pending s session c) (note.Call session c)) session d.started d.block d.skipping d.tx c))
 
   pub takes_at_kept : (s : NodeState) (session : ℕ) (d : Option SessionState) → R s (after_call_of s session d)
@@ -105,7 +105,7 @@ module _ (R : NodeState → NodeState → Type 0) (kit : ClosedUnderSteps R) whe
   hands_kept s session None = kit.nothing s
   hands_kept s session (Some a) =
       kit.andthen s _ _ (on_session_state_kept R kit s session (session_state_after_answer a) (session_state_of s session))
-      (kit.noting (on_session_state s session (session_state_after_answer a) (session_state_of s session)) (note.Answer session a) refl refl)
+      (kit.noting (on_session_state s session (session_state_after_answer a) (session_state_of s session)) (note.Answer session a) refl refl refl)
 
   pub hands_at_kept : (s : NodeState) (session : ℕ) (d : Option SessionState) → R s (after_answer_of s session d)
   hands_at_kept s session None = kit.nothing s

@@ -16,6 +16,7 @@ use Rattle.node_state.specs.declared.session.SessionState.{SessionState}
 use Rattle.ignite_types.specs.declared.answer.Fault.TheVariants as fault
 use Rattle.ignite_types.specs.declared.journal.Rec.TheVariants as note
 use Rattle.node_state.specs.declared.near.TxState.TheVariants as state
+use Rattle.frame_laws.proofs.Plain.{decision_plain, left_plain}
 use Rattle.frame_laws.specs.Kits.{ClosedUnderSteps}
 use Rattle.frame_laws.proofs.Kits.{either_kept}
 
@@ -27,8 +28,8 @@ module _ (R : NodeState → NodeState → Type 0) (kit : ClosedUnderSteps R) whe
   decides_for_kept s tx commit None = kit.nothing s
   decides_for_kept s tx commit (Some e) =
       kit.andthen s _ _ (takes_decision_kept s tx commit)
-      (kit.andthen _ _ _ (kit.noting (with_decision s tx commit) (note.Decide tx commit) refl refl)
-      (kit.sent_all (with_note (with_decision s tx commit) (note.Decide tx commit)) (decision_outs s tx commit e)))
+      (kit.andthen _ _ _ (kit.noting (with_decision s tx commit) (note.Decide tx commit) refl refl refl)
+      (kit.sent_all (with_note (with_decision s tx commit) (note.Decide tx commit)) (decision_outs s tx commit e) (decision_plain s tx commit e)))
 
   pub decides_kept : (s : NodeState) (tx : TxId) (commit : Bool) → R s (after_decide s tx commit)
   decides_kept s tx commit = decides_for_kept s tx commit (entry_of s tx)
@@ -39,11 +40,11 @@ module _ (R : NodeState → NodeState → Type 0) (kit : ClosedUnderSteps R) whe
   pub fails_kept : (s : NodeState) (tx : TxId) (f : Fault) → R s (after_fail s tx f)
   fails_kept s tx f =
       kit.andthen s _ _ (takes_fault_kept s tx f)
-      (kit.andthen _ _ _ (kit.noting (with_fault s tx f) (note.Fault tx f) refl refl)
+      (kit.andthen _ _ _ (kit.noting (with_fault s tx f) (note.Fault tx f) refl refl refl)
       (decides_kept (with_note (with_fault s tx f) (note.Fault tx f)) tx false))
 
   pub without_tx_kept : (s : NodeState) (tx : TxId) → R s (without_tx s tx)
-  without_tx_kept s tx = kit.aside s (without_tx s tx) refl refl refl refl refl refl
+  without_tx_kept s tx = kit.aside s (without_tx s tx) refl
 
   pub tells_kept : (s : NodeState) (tx : TxId) (f : Fault) (c : Command) → R s (after_tell s tx f c)
   tells_kept s tx f c =
@@ -83,7 +84,7 @@ module _ (R : NodeState → NodeState → Type 0) (kit : ClosedUnderSteps R) whe
 
   pub decided_left_kept : (s : NodeState) (tx : TxId) (lost : NodeId) (e : TxEntry) → R s (after_left_decided s tx lost e)
   decided_left_kept s tx lost e =
-      kit.andthen s _ _ (leaves_entry_kept s tx lost) (kit.sent_all (with_entry_left s tx lost) (outs_after_left s tx lost e))
+      kit.andthen s _ _ (leaves_entry_kept s tx lost) (kit.sent_all (with_entry_left s tx lost) (outs_after_left s tx lost e) (left_plain s tx lost e))
 
   pub left_in_state_kept : (s : NodeState) (tx : TxId) (lost : NodeId) (e : TxEntry) (st : TxState) → R s (after_left_in_state s tx lost e st)
   left_in_state_kept s tx lost e state.Searching = kit.nothing s

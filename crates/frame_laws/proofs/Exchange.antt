@@ -20,14 +20,17 @@ use Rattle.node_state.specs.declared.topology.Exchange.{Exchange}
 use Rattle.ordered_set.specs.Members.{with_member}
 use Rattle.ignite_types.specs.declared.message.Message.TheVariants as msg
 use Rattle.ignite_types.specs.declared.journal.Rec.TheVariants as note
-use Rattle.frame_laws.specs.Kits.{ClosedUnderSteps}
-use Rattle.frame_laws.proofs.Kits.{either_kept, sent_kept}
+use Rattle.frame_laws.specs.Kits.{ClosedUnderAllSteps, ClosedUnderSteps}
+use Rattle.frame_laws.proofs.Kits.{either_kept}
 
-module _ (R : NodeState → NodeState → Type 0) (kit : ClosedUnderSteps R) where
+module _ (R : NodeState → NodeState → Type 0) (all : ClosedUnderAllSteps R) where
+  abbrev kit : ClosedUnderSteps R
+  kit = all.plain
+
   -- Seeing.
 
   pub learns_kept : (s : NodeState) (event : TopoEvent) → R s (after_learn s event)
-  learns_kept s event = kit.aside s (after_learn s event) refl refl refl refl refl refl
+  learns_kept s event = all.changes s (after_learn s event) refl refl refl refl refl refl
 
   -- Installing.
 
@@ -45,20 +48,20 @@ module _ (R : NodeState → NodeState → Type 0) (kit : ClosedUnderSteps R) whe
   }
 
   pub installs_kept : (s : NodeState) (m : PartMap) → R s (after_install s m)
-  installs_kept s m = kit.andthen s (cleared s m) (with_note (cleared s m) (note.Install m)) (kit.aside s (cleared s m) refl refl refl refl refl refl)
-      (kit.noting (cleared s m) (note.Install m) refl refl)
+  installs_kept s m = kit.andthen s (cleared s m) (with_note (cleared s m) (note.Install m)) (all.changes s (cleared s m) refl refl refl refl refl refl)
+      (all.notes (cleared s m) (note.Install m) refl refl)
 
   -- Opening.
 
   pub demands_kept : (s : NodeState) → R s (after_send_demands s)
-  demands_kept s = kit.sent_all s (demand_outs s.me (installed_top s) 0 (rows_of s))
+  demands_kept s = all.sends s (demand_outs s.me (installed_top s) 0 (rows_of s))
 
   pub opens_row_kept : (s : NodeState) (top : TopVer) → R s (after_opens s top)
   opens_row_kept s top =
       let opening : NodeState = record s { opened = Some top } in
       let noted : NodeState = with_note opening (note.Opened top) in
       kit.andthen s noted (after_send_demands (after_start_all noted))
-      (kit.andthen s opening noted (kit.aside s opening refl refl refl refl refl refl) (kit.noting opening (note.Opened top) refl refl))
+      (kit.andthen s opening noted (all.changes s opening refl refl refl refl refl refl) (all.notes opening (note.Opened top) refl refl))
       (kit.andthen noted (after_start_all noted) (after_send_demands (after_start_all noted)) (starts_all_kept R kit noted) (demands_kept (after_start_all noted)))
 
   -- The coordinator.
@@ -68,7 +71,7 @@ module _ (R : NodeState → NodeState → Type 0) (kit : ClosedUnderSteps R) whe
       let over : NodeState = record s { exchange = None } in
       let told : NodeState = with_outs over (outs_to (others_seen s) (msg.Opens top)) in
       kit.andthen s told (after_opens told top)
-      (kit.andthen s over told (kit.aside s over refl refl refl refl refl refl) (kit.sent_all over (outs_to (others_seen s) (msg.Opens top))))
+      (kit.andthen s over told (all.changes s over refl refl refl refl refl refl) (all.sends over (outs_to (others_seen s) (msg.Opens top))))
       (opens_row_kept told top)
 
   pub opens_if_all_kept : (s : NodeState) (found : Option Exchange) → R s (after_open_if_all s found)
@@ -78,10 +81,10 @@ module _ (R : NodeState → NodeState → Type 0) (kit : ClosedUnderSteps R) whe
   pub counts_kept : (s : NodeState) (x : Exchange) → R s (after_count s x)
   counts_kept s x =
       let here : NodeState = record s { exchange = Some x } in
-      kit.andthen s here (after_open_if_all here (Some x)) (kit.aside s here refl refl refl refl refl refl) (opens_if_all_kept here (Some x))
+      kit.andthen s here (after_open_if_all here (Some x)) (all.changes s here refl refl refl refl refl refl) (opens_if_all_kept here (Some x))
 
   pub without_singles_kept : (s : NodeState) (top : TopVer) → R s (without_singles s top)
-  without_singles_kept s top = kit.aside s (without_singles s top) refl refl refl refl refl refl
+  without_singles_kept s top = all.changes s (without_singles s top) refl refl refl refl refl refl
 
   pub computes_kept : (s : NodeState) (m : PartMap) → R s (after_compute s m)
   computes_kept s m =
@@ -91,7 +94,7 @@ module _ (R : NodeState → NodeState → Type 0) (kit : ClosedUnderSteps R) whe
       let own : Exchange = record { top = m.top; installed = s.me ∷ [] } in
       kit.andthen s there (after_count told own)
       (kit.andthen s fewer there (without_singles_kept s m.top) (installs_kept fewer m))
-      (kit.andthen there told (after_count told own) (kit.sent_all there (outs_to (others_seen s) (msg.Full m))) (counts_kept told own))
+      (kit.andthen there told (after_count told own) (all.sends there (outs_to (others_seen s) (msg.Full m))) (counts_kept told own))
 
   pub computes_if_all_kept : (s : NodeState) → R s (after_compute_if_all s)
   computes_if_all_kept s = either_kept R kit s (after_compute s (next_map_seen s)) s (may_compute s) (computes_kept s (next_map_seen s)) (kit.nothing s)
@@ -101,11 +104,11 @@ module _ (R : NodeState → NodeState → Type 0) (kit : ClosedUnderSteps R) whe
       let here : NodeState = record s {
         singles = s.singles ++ record { from = from; top = top; map = m; complete = complete } ∷ [];
       } in
-      kit.andthen s here (after_compute_if_all here) (kit.aside s here refl refl refl refl refl refl) (computes_if_all_kept here)
+      kit.andthen s here (after_compute_if_all here) (all.changes s here refl refl refl refl refl refl) (computes_if_all_kept here)
 
   pub full_row_kept : (s : NodeState) (from : NodeId) (m : PartMap) → R s (after_full s from m)
   full_row_kept s from m = either_kept R kit s (with_out (after_install s m) from (msg.Installed m.top)) s (is_newer_map m s.installed)
-      (kit.andthen s (after_install s m) (with_out (after_install s m) from (msg.Installed m.top)) (installs_kept s m) (sent_kept R kit (after_install s m) from (msg.Installed m.top)))
+      (kit.andthen s (after_install s m) (with_out (after_install s m) from (msg.Installed m.top)) (installs_kept s m) (all.sends (after_install s m) (record { to = from; msg = msg.Installed m.top } ∷ [])))
       (kit.nothing s)
 
   pub counts_installed_kept : (s : NodeState) (from : NodeId) (top : TopVer) (found : Option Exchange) → R s (after_count_installed s from top found)
@@ -117,4 +120,4 @@ module _ (R : NodeState → NodeState → Type 0) (kit : ClosedUnderSteps R) whe
   installed_row_kept s from top = counts_installed_kept s from top s.exchange
 
   pub without_single_kept : (s : NodeState) (who : NodeId) → R s (without_single s who)
-  without_single_kept s who = kit.aside s (without_single s who) refl refl refl refl refl refl
+  without_single_kept s who = all.changes s (without_single s who) refl refl refl refl refl refl

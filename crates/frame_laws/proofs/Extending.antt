@@ -6,7 +6,7 @@ use Rattle.ignite_types.specs.declared.journal.Rec.{Rec}
 use Rattle.ignite_types.specs.declared.message.Out.{Out}
 use Rattle.ignite_types.specs.declared.names.NodeId.{NodeId}
 use Rattle.node_state.specs.Node.{NodeState}
-use Rattle.frame_laws.specs.Kits.{ClosedUnderSteps}
+use Rattle.frame_laws.specs.Kits.{ClosedUnderAllSteps, ClosedUnderSteps, PlainFrame}
 use Rattle.act_rows.specs.Locks.{after_grant, after_leave, after_lock_behind, after_pass_on, after_release, is_owner, owner_at, with_queued}
 use Rattle.act_rows.specs.Steps.{installed_top, with_note, with_outs}
 use Rattle.ignite_types.specs.declared.names.TopVer.{TopVer}
@@ -107,14 +107,23 @@ released_extends s tx key =
     (passed_on_extends after key (is_owner tx (owner_at s key)) (owner_at after key))
 
 -- every row extends the node
-pub extending : ClosedUnderSteps OnlyAppends
-extending = record {
+pub extending_plain : ClosedUnderSteps OnlyAppends
+extending_plain = record {
   nothing = nothing;
   andthen = andthen;
-  aside = λ before after me acts now noted outbox queues. aside before after me acts now noted outbox;
-  noting = λ s r own lockless. noting_extends s r own;
-  sent_all = sent_all_extends;
+  aside = λ before after same. aside before after (ap (λ (c : PlainFrame). c.me) same) (ap (λ (c : PlainFrame). c.acts) same) (ap (λ (c : PlainFrame). c.now) same) (ap (λ (c : PlainFrame). c.noted) same) (ap (λ (c : PlainFrame). c.outbox) same);
+  noting = λ s r own lockless other. noting_extends s r own;
+  sent_all = λ s outs plain. sent_all_extends s outs;
   placed = λ s from tx top key. placed_extends s from tx top key (owner_at s key);
   released = released_extends;
   owned = λ s tx top key free. andthen s (with_queued s tx key) (with_note (with_queued s tx key) (note.Grant tx top key)) (enqueued_extends s tx key) (noting_extends (with_queued s tx key) (note.Grant tx top key) refl);
+}
+
+-- those of the exchange too
+pub extending : ClosedUnderAllSteps OnlyAppends
+extending = record {
+  plain = extending_plain;
+  changes = λ before after me acts now noted outbox queues. aside before after me acts now noted outbox;
+  notes = λ s r own lockless. noting_extends s r own;
+  sends = sent_all_extends;
 }

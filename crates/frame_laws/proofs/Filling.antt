@@ -22,25 +22,25 @@ module _ (R : NodeState → NodeState → Type 0) (kit : ClosedUnderSteps R) whe
   demand_row_kept s from top part after =
       let copy : Copy = copy_at s.stores part in
       let m : Message = msg.Supply top part (batch_of copy after batch_size) (is_last_batch copy after batch_size) in
-      either_kept R kit s (with_out s from m) s (is_installed s top) (sent_kept R kit s from m) (kit.nothing s)
+      either_kept R kit s (with_out s from m) s (is_installed s top) (sent_kept R kit s from m refl) (kit.nothing s)
 
   pub with_copy_kept : (s : NodeState) (part : ℕ) (copy : Copy) → R s (with_copy s part copy)
-  with_copy_kept s part copy = kit.aside s (with_copy s part copy) refl refl refl refl refl refl
+  with_copy_kept s part copy = kit.aside s (with_copy s part copy) refl
 
   pub claims_if_all_kept : (s : NodeState) (top : TopVer) → R s (after_claim_if_all s top)
   claims_if_all_kept s top = either_kept R kit s (with_out_to_oldest s (msg.Complete top) (oldest_seen s)) s (all_filled s)
-      (sent_to_oldest_kept R kit s (msg.Complete top) (oldest_seen s)) (kit.nothing s)
+      (sent_to_oldest_kept R kit s (msg.Complete top) (oldest_seen s) refl) (kit.nothing s)
 
   pub completes_kept : (s : NodeState) (top : TopVer) (part : ℕ) → R s (after_complete_part s top part)
   completes_kept s top part =
       let here : NodeState = record (with_copy s part (without_tombstones (copy_at s.stores part))) {
         complete = with_member nat_cmp s.complete part;
       } in
-      kit.andthen s here (after_claim_if_all here top) (kit.aside s here refl refl refl refl refl refl) (claims_if_all_kept here top)
+      kit.andthen s here (after_claim_if_all here top) (kit.aside s here refl) (claims_if_all_kept here top)
 
   pub supplied_to_kept : (s : NodeState) (from : NodeId) (top : TopVer) (part : ℕ) (entries : List Stored) (last : Bool) → R s (after_supplied s from top part entries last)
   supplied_to_kept s from top part entries true = completes_kept s top part
-  supplied_to_kept s from top part entries false = sent_kept R kit s from (msg.Demand top part (last_key entries))
+  supplied_to_kept s from top part entries false = sent_kept R kit s from (msg.Demand top part (last_key entries)) refl
 
   pub supply_row_kept : (s : NodeState) (from : NodeId) (top : TopVer) (part : ℕ) (entries : List Stored) (last : Bool) → R s (after_supply s from top part entries last)
   supply_row_kept s from top part entries last =
@@ -50,4 +50,4 @@ module _ (R : NodeState → NodeState → Type 0) (kit : ClosedUnderSteps R) whe
       (kit.nothing s)
 
   pub complete_row_kept : (s : NodeState) (from : NodeId) (top : TopVer) → R s (after_complete s from top)
-  complete_row_kept s from top = kit.aside s (after_complete s from top) refl refl refl refl refl refl
+  complete_row_kept s from top = kit.aside s (after_complete s from top) refl

@@ -12,6 +12,7 @@ pub mod Filling
 pub mod Kits
 pub mod Locks
 pub mod Owners
+pub mod Plain
 pub mod Primary
 pub mod Recovery
 pub mod Searches

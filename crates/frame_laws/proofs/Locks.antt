@@ -48,17 +48,17 @@ module _ (R : NodeState → NodeState → Type 0) (kit : ClosedUnderSteps R) whe
       (owns_each_kept next tx top ws (still_free s.queues tx w.key (wanted_keys ws) here.0 here.1))
 
   pub reads_for_kept : (s : NodeState) (from : NodeId) (near : Bool) (key : Key) → R s (with_reader_if s from near key)
-  reads_for_kept s from true key = kit.aside s (record s { readers = with_reader s.readers key from }) refl refl refl refl refl refl
+  reads_for_kept s from true key = kit.aside s (record s { readers = with_reader s.readers key from }) refl
   reads_for_kept s from false key = kit.nothing s
 
   pub get_row_kept : (s : NodeState) (from : NodeId) (tx : TxId) (key : Key) (near : Bool) → R s (after_get s from tx key near)
   get_row_kept s from tx key near =
       kit.andthen s (with_reader_if s from near key) (after_get s from tx key near)
       (reads_for_kept s from near key)
-      (sent_kept R kit (with_reader_if s from near key) from (msg.GetOk tx key (found_at s key)))
+      (sent_kept R kit (with_reader_if s from near key) from (msg.GetOk tx key (found_at s key)) refl)
 
   pub edges_row_kept : (s : NodeState) (from : NodeId) (tx : TxId) (round : ℕ) (txs : List TxId) → R s (after_edges s from tx round txs)
   edges_row_kept s from tx round txs = let waits = edges_of s.queues txs in
       kit.andthen s (with_note s (note.Waits tx round waits)) (with_out (with_note s (note.Waits tx round waits)) from (msg.EdgesOk tx round s.acts waits))
-      (kit.noting s (note.Waits tx round waits) refl refl)
-      (sent_kept R kit (with_note s (note.Waits tx round waits)) from (msg.EdgesOk tx round s.acts waits))
+      (kit.noting s (note.Waits tx round waits) refl refl refl)
+      (sent_kept R kit (with_note s (note.Waits tx round waits)) from (msg.EdgesOk tx round s.acts waits) refl)

@@ -29,6 +29,7 @@ use Rattle.act_rows.specs.Primary.{after_advance_share, after_advance_share_in, 
 use Rattle.frame_laws.proofs.Locks.{owns_each_kept, releases_kept}
 use Rattle.frame_laws.proofs.Steps.{on_share_kept, with_share_kept}
 use Rattle.frame_laws.proofs.Stores.{applied_all_kept}
+use Rattle.frame_laws.proofs.Plain.{both_plain, to_plain, near_plain, backup_prepare_plain}
 use Rattle.frame_laws.specs.Kits.{ClosedUnderSteps}
 use Rattle.frame_laws.proofs.Kits.{either_kept, sent_kept}
 use Rattle.act_rows.specs.Primary.{first_changed, wanted_keys}
@@ -37,18 +38,18 @@ use Rattle.frame_laws.proofs.Owners.{unblocked}
 
 module _ (R : NodeState → NodeState → Type 0) (kit : ClosedUnderSteps R) where
   pub forgetting_kept : (s : NodeState) (tx : TxId) → R s (after_forget s tx)
-  forgetting_kept s tx = kit.aside s (after_forget s tx) refl refl refl refl refl refl
+  forgetting_kept s tx = kit.aside s (after_forget s tx) refl
 
   pub begins_share_kept : (s : NodeState) (tx : TxId) (top : TopVer) (shares : List Share) (writes : List Stored) (nodes : List NodeId) → R s (after_begin_share s tx top shares writes nodes)
   begins_share_kept s tx top shares writes nodes =
       kit.andthen s (with_share s tx (new_share top shares writes nodes)) (after_begin_share s tx top shares writes nodes)
       (with_share_kept R kit s tx (new_share top shares writes nodes))
-      (kit.sent_all (with_share s tx (new_share top shares writes nodes)) (backup_prepare_outs s tx top shares writes nodes))
+      (kit.sent_all (with_share s tx (new_share top shares writes nodes)) (backup_prepare_outs s tx top shares writes nodes) (backup_prepare_plain s tx top shares writes nodes))
 
   pub draws_kept : (s : NodeState) (tx : TxId) (top : TopVer) (shares : List Share) (writes : List (Key × Option (List ℕ))) → R s (after_draw s tx top shares writes)
   draws_kept s tx top shares writes =
       kit.andthen s (record s { order = last_drawn s.order writes }) (after_draw s tx top shares writes)
-      (kit.aside s (record s { order = last_drawn s.order writes }) refl refl refl refl refl refl)
+      (kit.aside s (record s { order = last_drawn s.order writes }) refl)
       (begins_share_kept (record s { order = last_drawn s.order writes }) tx top shares
       (drawn_writes top s.me s.order writes) (backups_for s shares))
 
@@ -57,7 +58,7 @@ module _ (R : NodeState → NodeState → Type 0) (kit : ClosedUnderSteps R) whe
       kit.andthen s (after_own_each s tx top wanted) (after_draw (after_own_each s tx top wanted) tx top shares writes)
       (owns_each_kept R kit s tx top wanted (unblocked (first_blocked s.queues (wanted_keys wanted) tx) (first_changed s wanted) passed))
       (draws_kept (after_own_each s tx top wanted) tx top shares writes)
-  checked_kept s from tx top shares wanted writes (Some why) refused = sent_kept R kit s from (msg.PrepareFail tx why)
+  checked_kept s from tx top shares wanted writes (Some why) refused = sent_kept R kit s from (msg.PrepareFail tx why) refl
 
   pub prepare_in_kept : (s : NodeState) (from : NodeId) (tx : TxId) (top : TopVer) (how : Mode) (shares : List Share) (wanted : List Wanted) (writes : List (Key × Option (List ℕ))) → R s (after_prepare_in s from tx top how shares wanted writes)
   prepare_in_kept s from tx top mode.Pessimistic shares wanted writes = draws_kept s tx top shares writes
@@ -96,23 +97,23 @@ module _ (R : NodeState → NodeState → Type 0) (kit : ClosedUnderSteps R) whe
       (kit.andthen s done begun
       (applied_all_kept R kit s tx h.top s.me h.writes)
       (begins_finish_kept done tx Committed from nodes (near_waits s h.writes)))
-      (kit.sent_all begun outs)
+      (kit.sent_all begun outs (both_plain (backup_finish_outs tx s.me true nodes) (near_outs s tx h.writes) (to_plain nodes (msg.BackupFinish tx s.me true) refl) (near_plain s tx h.writes)))
 
   pub undoes_share_kept : (s : NodeState) (from : NodeId) (tx : TxId) (nodes : List NodeId) → R s (after_undo_share s from tx nodes)
   undoes_share_kept s from tx nodes =
       kit.andthen s (with_finish_begun s tx Undoing from nodes []) (after_undo_share s from tx nodes)
       (begins_finish_kept s tx Undoing from nodes [])
-      (kit.sent_all (with_finish_begun s tx Undoing from nodes []) (backup_finish_outs tx s.me false nodes))
+      (kit.sent_all (with_finish_begun s tx Undoing from nodes []) (backup_finish_outs tx s.me false nodes) (to_plain nodes (msg.BackupFinish tx s.me false) refl))
 
   pub finishing_kept : (s : NodeState) (from : NodeId) (tx : TxId) (commit : Bool) (h : OwnShare) (st : ShareState) → R s (after_finish_in s from tx commit h st)
   finishing_kept s from tx true h Prepared = commits_share_kept s from tx h (backups_for s h.shares)
-  finishing_kept s from tx true h Preparing = sent_kept R kit s from (msg.Finished tx)
-  finishing_kept s from tx true h Committed = sent_kept R kit s from (msg.Finished tx)
-  finishing_kept s from tx true h Undoing = sent_kept R kit s from (msg.Finished tx)
+  finishing_kept s from tx true h Preparing = sent_kept R kit s from (msg.Finished tx) refl
+  finishing_kept s from tx true h Committed = sent_kept R kit s from (msg.Finished tx) refl
+  finishing_kept s from tx true h Undoing = sent_kept R kit s from (msg.Finished tx) refl
   finishing_kept s from tx false h Prepared = undoes_share_kept s from tx (backups_for s h.shares)
   finishing_kept s from tx false h Preparing = undoes_share_kept s from tx (backups_for s h.shares)
-  finishing_kept s from tx false h Committed = sent_kept R kit s from (msg.Finished tx)
-  finishing_kept s from tx false h Undoing = sent_kept R kit s from (msg.Finished tx)
+  finishing_kept s from tx false h Committed = sent_kept R kit s from (msg.Finished tx) refl
+  finishing_kept s from tx false h Undoing = sent_kept R kit s from (msg.Finished tx) refl
 
   pub adds_asker_kept : (s : NodeState) (tx : TxId) (from : NodeId) → R s (with_asker s tx from)
   adds_asker_kept s tx from =
@@ -126,7 +127,7 @@ module _ (R : NodeState → NodeState → Type 0) (kit : ClosedUnderSteps R) whe
   finish_of_kept s from tx commit None =
       kit.andthen s (after_release_all s tx) (with_out (after_release_all s tx) from (msg.Finished tx))
       (releases_kept R kit s tx)
-      (sent_kept R kit (after_release_all s tx) from (msg.Finished tx))
+      (sent_kept R kit (after_release_all s tx) from (msg.Finished tx) refl)
   finish_of_kept s from tx commit (Some h) = finish_at_kept s from tx commit h h.askers
 
   pub finish_row_kept : (s : NodeState) (from : NodeId) (tx : TxId) (commit : Bool) → R s (after_finish s from tx commit)
@@ -156,7 +157,7 @@ module _ (R : NodeState → NodeState → Type 0) (kit : ClosedUnderSteps R) whe
   ends_finish_kept s tx = on_share_kept R kit s tx (λ (h : OwnShare). record h { askers = [] }) (share_of s tx)
 
   pub share_after_kept : (s : NodeState) (tx : TxId) (st : ShareState) → R s (after_finished_share s tx st)
-  share_after_kept s tx Undoing = kit.aside s (record s { shares = without tx_cmp s.shares tx }) refl refl refl refl refl refl
+  share_after_kept s tx Undoing = kit.aside s (record s { shares = without tx_cmp s.shares tx }) refl
   share_after_kept s tx Preparing = ends_finish_kept s tx
   share_after_kept s tx Prepared = ends_finish_kept s tx
   share_after_kept s tx Committed = ends_finish_kept s tx
@@ -167,14 +168,14 @@ module _ (R : NodeState → NodeState → Type 0) (kit : ClosedUnderSteps R) whe
       let after = after_finished_share left tx h.state in
       kit.andthen s after (with_outs after (outs_to h.askers (msg.Finished tx)))
       (kit.andthen s left after (releases_kept R kit s tx) (share_after_kept left tx h.state))
-      (kit.sent_all after (outs_to h.askers (msg.Finished tx)))
+      (kit.sent_all after (outs_to h.askers (msg.Finished tx)) (to_plain h.askers (msg.Finished tx) refl))
 
   pub is_prepared_kept : (s : NodeState) (tx : TxId) → R s (after_share_prepared s tx)
   is_prepared_kept s tx =
       let after = on_share s tx (λ (h : OwnShare). record h { state = Prepared }) (share_of s tx) in
       kit.andthen s after (with_out after tx.node (msg.Prepared tx))
       (on_share_kept R kit s tx (λ (h : OwnShare). record h { state = Prepared }) (share_of s tx))
-      (sent_kept R kit after tx.node (msg.Prepared tx))
+      (sent_kept R kit after tx.node (msg.Prepared tx) refl)
 
   pub goes_on_kept : (s : NodeState) (tx : TxId) (h : OwnShare) (awaited : List NodeId) (near : List NearWait) (askers : List NodeId) (st : ShareState) → R s (after_advance_share_in s tx h awaited near askers st)
   goes_on_kept s tx h [] [] (asker ∷ more) st = finish_over_kept s tx h
@@ -207,4 +208,4 @@ module _ (R : NodeState → NodeState → Type 0) (kit : ClosedUnderSteps R) whe
   primary_left_kept s id = let here = after_left_at_shares s id (own_txs s) in
       kit.andthen s here (record here { readers = without_reader here.readers id })
       (shares_left_kept s id (own_txs s))
-      (kit.aside here (record here { readers = without_reader here.readers id }) refl refl refl refl refl refl)
+      (kit.aside here (record here { readers = without_reader here.readers id }) refl)

@@ -20,6 +20,7 @@ use Rattle.ordered_set.specs.Members.{without_member}
 use Rattle.ordered_table.specs.Entries.{at, put}
 use Rattle.ignite_types.specs.declared.message.Message.TheVariants as msg
 use Rattle.ignite_types.specs.declared.journal.Rec.TheVariants as note
+use Rattle.frame_laws.proofs.Plain.{both_plain, lost_plain, to_plain}
 use Rattle.frame_laws.specs.Kits.{ClosedUnderSteps}
 use Rattle.frame_laws.proofs.Kits.{either_kept}
 
@@ -27,10 +28,10 @@ module _ (R : NodeState → NodeState → Type 0) (kit : ClosedUnderSteps R) whe
   -- A loss begins a new round.
 
   pub sends_orphans_kept : (s : NodeState) (round : ℕ) → R s (after_send_orphans s round)
-  sends_orphans_kept s round = sent_to_oldest_kept R kit s (orphans_message s round) (oldest_seen s)
+  sends_orphans_kept s round = sent_to_oldest_kept R kit s (orphans_message s round) (oldest_seen s) refl
 
   pub starts_round_kept : (s : NodeState) (place : ℕ) → R s (with_new_round s place)
-  starts_round_kept s place = kit.aside s (with_new_round s place) refl refl refl refl refl refl
+  starts_round_kept s place = kit.aside s (with_new_round s place) refl
 
   pub begins_round_kept : (s : NodeState) (place : ℕ) → R s (after_begin_round s place)
   begins_round_kept s place = kit.andthen s (with_new_round s place) (after_send_orphans (with_new_round s place) place)
@@ -40,7 +41,7 @@ module _ (R : NodeState → NodeState → Type 0) (kit : ClosedUnderSteps R) whe
 
   pub on_round_kept : (s : NodeState) (f : Round → Round) (found : Option Round) → R s (on_round s f found)
   on_round_kept s f None = kit.nothing s
-  on_round_kept s f (Some r) = kit.aside s (record s { round = Some (f r) }) refl refl refl refl refl refl
+  on_round_kept s f (Some r) = kit.aside s (record s { round = Some (f r) }) refl
 
   pub awaits_verdict_kept : (s : NodeState) (tx : TxId) (nodes : List NodeId) (backups : List Share) → R s (with_verdict_awaited s tx nodes backups)
   awaits_verdict_kept s tx nodes backups = on_round_kept s (λ (r : Round). record r {
@@ -56,9 +57,9 @@ module _ (R : NodeState → NodeState → Type 0) (kit : ClosedUnderSteps R) whe
       let outs : List Out = outs_to (finish_nodes s shares nodes) (msg.Finish tx commit)
       ++ finishes_for_lost s tx commit shares (lost_among s (primaries_of shares)) in
       kit.andthen s noted (with_outs awaiting outs)
-      (kit.andthen s kept noted (kit.aside s kept refl refl refl refl refl refl) (kit.noting kept (note.Decide tx commit) refl refl))
+      (kit.andthen s kept noted (kit.aside s kept refl) (kit.noting kept (note.Decide tx commit) refl refl refl))
       (kit.andthen noted awaiting (with_outs awaiting outs)
-      (awaits_verdict_kept noted tx (finish_nodes s shares nodes) (orphaned_shares s shares)) (kit.sent_all awaiting outs))
+      (awaits_verdict_kept noted tx (finish_nodes s shares nodes) (orphaned_shares s shares)) (kit.sent_all awaiting outs (both_plain (outs_to (finish_nodes s shares nodes) (msg.Finish tx commit)) _ (to_plain (finish_nodes s shares nodes) (msg.Finish tx commit) refl) (lost_plain s tx commit shares (lost_among s (primaries_of shares))))))
 
   pub judges_kept : (s : NodeState) (tx : TxId) (members : List Member) (orphans : List Orphan) (nodes : List NodeId) → R s (after_judge s tx members orphans nodes)
   judges_kept s tx members orphans nodes =
@@ -91,12 +92,12 @@ module _ (R : NodeState → NodeState → Type 0) (kit : ClosedUnderSteps R) whe
       (recovers_with_kept s r (reports_for s.reports r.place)) (kit.nothing s)
 
   pub reports_more_kept : (s : NodeState) (r : Report) → R s (with_report s r)
-  reports_more_kept s r = kit.aside s (with_report s r) refl refl refl refl refl refl
+  reports_more_kept s r = kit.aside s (with_report s r) refl
 
   pub orphans_row_kept : (s : NodeState) (from : NodeId) (round : ℕ) (list : List Orphan) → R s (after_orphans s from round list)
   orphans_row_kept s from round list = let here : NodeState = record s {
     reports = s.reports ++ record { round = round; from = from; list = list } ∷ [];
-  } in kit.andthen s here (after_recover_if_all here here.round) (kit.aside s here refl refl refl refl refl refl) (recovers_if_all_kept here here.round)
+  } in kit.andthen s here (after_recover_if_all here here.round) (kit.aside s here refl) (recovers_if_all_kept here here.round)
 
   -- answers to the recoverer
 

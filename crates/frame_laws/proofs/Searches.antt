@@ -23,12 +23,13 @@ use Rattle.ignite_types.specs.declared.answer.Fault.TheVariants as fault
 use Rattle.ignite_types.specs.declared.message.Message.TheVariants as msg
 use Rattle.ignite_types.specs.declared.journal.Rec.TheVariants as note
 use Rattle.node_state.specs.declared.near.TxState.TheVariants as state
+use Rattle.frame_laws.proofs.Plain.{to_plain}
 use Rattle.frame_laws.specs.Kits.{ClosedUnderSteps}
 use Rattle.frame_laws.proofs.Kits.{either_kept}
 
 module _ (R : NodeState → NodeState → Type 0) (kit : ClosedUnderSteps R) where
   pub asks_kept : (s : NodeState) (tx : TxId) (round : ℕ) (known : List TxId) (nodes : List NodeId) → R s (after_ask s tx round known nodes)
-  asks_kept s tx round known nodes = kit.sent_all s (outs_to nodes (msg.Edges tx round known))
+  asks_kept s tx round known nodes = kit.sent_all s (outs_to nodes (msg.Edges tx round known)) (to_plain nodes (msg.Edges tx round known) refl)
 
   pub searching_kept : (s : NodeState) (tx : TxId) (search : Search) → R s (with_search s tx search)
   searching_kept s tx search =
@@ -53,7 +54,7 @@ module _ (R : NodeState → NodeState → Type 0) (kit : ClosedUnderSteps R) whe
   pub expire_row_kept : (s : NodeState) (tx : TxId) → R s (after_expire s tx)
   expire_row_kept s tx =
       let here : NodeState = with_note s (note.Expire tx) in
-      kit.andthen s here (after_expire_in here tx (tx_state_of s tx)) (kit.noting s (note.Expire tx) refl refl) (expire_in_kept here tx (tx_state_of s tx))
+      kit.andthen s here (after_expire_in here tx (tx_state_of s tx)) (kit.noting s (note.Expire tx) refl refl refl) (expire_in_kept here tx (tx_state_of s tx))
 
   pub next_round_kept : (s : NodeState) (tx : TxId) (search : Search) → R s (after_next_round s tx search)
   next_round_kept s tx search =
@@ -64,13 +65,13 @@ module _ (R : NodeState → NodeState → Type 0) (kit : ClosedUnderSteps R) whe
   search_clear_kept s tx search named =
       let here : NodeState = with_note s (note.Searched tx []) in
       either_kept R kit s (after_fail here tx fault.Timeout) (after_next_round s tx (search_of_next_round s search named)) (nat_eq (length named) (length search.known))
-      (kit.andthen s here (after_fail here tx fault.Timeout) (kit.noting s (note.Searched tx []) refl refl) (fails_kept R kit here tx fault.Timeout))
+      (kit.andthen s here (after_fail here tx fault.Timeout) (kit.noting s (note.Searched tx []) refl refl refl) (fails_kept R kit here tx fault.Timeout))
       (next_round_kept s tx (search_of_next_round s search named))
 
   pub searched_kept : (s : NodeState) (tx : TxId) (search : Search) (found : Option (List Edge)) → R s (after_search s tx search found)
   searched_kept s tx search (Some cycle) =
       let here : NodeState = with_note s (note.Searched tx cycle) in
-      kit.andthen s here (after_fail here tx fault.Deadlock) (kit.noting s (note.Searched tx cycle) refl refl) (fails_kept R kit here tx fault.Deadlock)
+      kit.andthen s here (after_fail here tx fault.Deadlock) (kit.noting s (note.Searched tx cycle) refl refl refl) (fails_kept R kit here tx fault.Deadlock)
   searched_kept s tx search None = search_clear_kept s tx search (with_named search.known search.edges)
 
   pub round_over_kept : (s : NodeState) (tx : TxId) (search : Search) (awaited : List NodeId) → R s (after_round s tx search awaited)

@@ -24,7 +24,7 @@ module _ (R : NodeState → NodeState → Type 0) (kit : ClosedUnderSteps R) whe
   pub starts_kept : (s : NodeState) (tx : TxId) (block : Bool) (c : Command) → R s (after_start s tx block c)
   starts_kept s tx block c =
       kit.andthen s _ _ (fixes_version_kept s tx s.seen)
-      (kit.andthen _ _ _ (kit.noting (with_version s tx s.seen) (note.Start tx s.seen) refl refl)
+      (kit.andthen _ _ _ (kit.noting (with_version s tx s.seen) (note.Start tx s.seen) refl refl refl)
       (does_kept R kit (with_note (with_version s tx s.seen) (note.Start tx s.seen)) tx s.seen block c))
 
   pub start_command_kept : (s : NodeState) (tx : TxId) (block : Bool) (c : Option Command) → R s (after_start_command s tx block c)

@@ -12,14 +12,14 @@ use Rattle.frame_laws.specs.Kits.{ClosedUnderSteps}
 
 module _ (R : NodeState → NodeState → Type 0) (kit : ClosedUnderSteps R) where
   pub stored_kept : (s : NodeState) (write : Stored) → R s (with_stored s write)
-  stored_kept s write = kit.aside s (with_stored s write) refl refl refl refl refl refl
+  stored_kept s write = kit.aside s (with_stored s write) refl
 
   -- one write is done and noted
   applied_kept : (s : NodeState) (tx : TxId) (top : TopVer) (primary : NodeId) (w : Stored) → R s (with_note (with_stored s w) (note.Apply tx top primary w.key w.value w.ver))
   applied_kept s tx top primary w =
       kit.andthen s (with_stored s w) (with_note (with_stored s w) (note.Apply tx top primary w.key w.value w.ver))
       (stored_kept s w)
-      (kit.noting (with_stored s w) (note.Apply tx top primary w.key w.value w.ver) refl refl)
+      (kit.noting (with_stored s w) (note.Apply tx top primary w.key w.value w.ver) refl refl refl)
 
   pub applied_all_kept : (s : NodeState) (tx : TxId) (top : TopVer) (primary : NodeId) (ws : List Stored) → R s (after_apply_each s tx top primary ws)
   applied_all_kept s tx top primary [] = kit.nothing s

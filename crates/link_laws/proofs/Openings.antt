@@ -30,14 +30,14 @@ use Rattle.node_state.specs.declared.life.Life.TheVariants as life
 
 -- Numbers of nodes, ascending.
 
-abbrev rises : ℕ → List NodeId → Bool
+abbrev pub rises : ℕ → List NodeId → Bool
 rises n [] = true
 rises n (x ∷ xs) = nat_le n x.0 && rises (suc x.0) xs
 
 both_true : (a b : Bool) → a ≡ true → b ≡ true → (a && b) ≡ true
 both_true a b x y = ap (λ (r : Bool). r && b) x ∙ y
 
-less_is : (x y : ℕ) → nat_cmp x y ≡ Less → x < y
+pub less_is : (x y : ℕ) → nat_cmp x y ≡ Less → x < y
 less_is x y less =
     (elim (nat_lt x y) as (λ b. nat_lt x y ≡ b → cond b Less (cond (x == y) Equal Greater) ≡ Less → x < y) [
       | true ↦ λ t e. grind (arith, nat_tests, t)
@@ -48,7 +48,7 @@ less_is x y less =
           ]) e
     ]) refl less
 
-greater_is : (x y : ℕ) → nat_cmp x y ≡ Greater → y < x
+pub greater_is : (x y : ℕ) → nat_cmp x y ≡ Greater → y < x
 greater_is x y more =
     (elim (nat_lt x y) as (λ b. nat_lt x y ≡ b → cond b Less (cond (x == y) Equal Greater) ≡ Greater → y < x) [
       | true ↦ λ t e. absurd (cc (e))
@@ -75,7 +75,7 @@ with_rises n (x ∷ xs) k low up =
     below : node_cmp k x ≡ Greater → suc x.0 ≤ k.0
     below g = let more = greater_is k.0 x.0 g in omega (arith, more)
 
-set_rises : (xs : List NodeId) (ms : List Member) → rises 0 xs ≡ true → rises 0 (node_set xs ms) ≡ true
+pub set_rises : (xs : List NodeId) (ms : List Member) → rises 0 xs ≡ true → rises 0 (node_set xs ms) ≡ true
 set_rises xs [] up = up
 set_rises xs (m ∷ ms) up = set_rises (with_member node_cmp xs m.node) ms (with_rises 0 xs m.node (omega arith) up)
 

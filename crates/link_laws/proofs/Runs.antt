@@ -147,7 +147,7 @@ pub links_keep : (j : Journal) → are_distinct scenarios.same_member_node (memb
 links_keep j apart short legal = run_keeps j.scenario [] (opening j.scenario) j.groups short (opening_carries j.scenario apart) legal.steps
 
 -- a good scenario is one of these
-nodes_apart : (s : Scenario) → good_nodes s ≡ true → are_distinct scenarios.same_member_node (members s) ≡ true
+pub nodes_apart : (s : Scenario) → good_nodes s ≡ true → are_distinct scenarios.same_member_node (members s) ≡ true
 nodes_apart s nodes =
     let three = first_rest (list_all (λ member. is_within 1 99 member.node.0) (members s) && are_distinct scenarios.same_member_node (members s) && nat_le (length (members s)) 16) (list_any (λ member. member.server) s.nodes) nodes in
     let two = first_rest (list_all (λ member. is_within 1 99 member.node.0) (members s) && are_distinct scenarios.same_member_node (members s)) (nat_le (length (members s)) 16) three.0 in
@@ -157,7 +157,7 @@ first_of_five : (a b c d e : Bool) → (a && b && c && d && e) ≡ true → a �
 first_of_five true b c d e all = refl
 first_of_five false b c d e all = absurd (cc)
 
-plan_short : (s : Scenario) → good_plan s ≡ true → length s.plan ≤ 64
+pub plan_short : (s : Scenario) → good_plan s ≡ true → length s.plan ≤ 64
 plan_short s plan =
     let short : nat_le (length s.plan) 64 ≡ true = first_of_five (nat_le (length s.plan) 64) _ _ _ _ plan in
     grind (arith, nat_tests, short)

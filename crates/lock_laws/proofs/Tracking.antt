@@ -7,7 +7,7 @@ use Rattle.std.proofs.lemmas.Bool.{eqb-true}
 use Rattle.std.proofs.lemmas.Bool.Decides.{nat_tests}
 use Rattle.std.proofs.lemmas.Cmp.{tied_itself}
 use Rattle.frame_laws.proofs.Extending.{append_none, append_twice}
-use Rattle.frame_laws.specs.Kits.{ClosedUnderSteps, is_lock}
+use Rattle.frame_laws.specs.Kits.{ClosedUnderAllSteps, ClosedUnderSteps, PlainFrame, is_lock}
 use Rattle.act_rows.specs.Locks.{after_grant, after_leave, after_lock_behind, after_pass_on, is_owner, owner_at, with_queued}
 use Rattle.act_rows.specs.Steps.{installed_top, with_note, with_outs}
 use Rattle.part_model.specs.Queues.{Queues, other_owner, owner_in, queue_in, queue_without, queues_with, queues_without, with_queue_in}
@@ -278,16 +278,24 @@ passed_tracks s tx key true None is none = drop_tracks s tx key (λ up. none_lef
 passed_tracks s tx key false owner other still_is = drop_tracks s tx key (λ up. left_goes s.queues tx key up other)
 
 -- every small step goes on telling of the lock queues
-pub tracking : ClosedUnderSteps KeepsOwnersMatch
-tracking = record {
+tracking_plain : ClosedUnderSteps KeepsOwnersMatch
+tracking_plain = record {
   nothing = λ s. still s s refl refl;
   andthen = andthen;
-  aside = λ before after me acts now noted outbox queues. still before after noted queues;
-  noting = λ s r own lockless. noting_tracks s r lockless;
-  sent_all = λ s outs. still s (with_outs s outs) refl refl;
+  aside = λ before after same. still before after (ap (λ (c : PlainFrame). c.noted) same) (ap (λ (c : PlainFrame). c.queues) same);
+  noting = λ s r own lockless other. noting_tracks s r lockless;
+  sent_all = λ s outs plain. still s (with_outs s outs) refl refl;
   placed = λ s from tx top key. placed_tracks s from tx top key (owner_at s key) refl;
   released = λ s tx key. passed_tracks s tx key (is_owner tx (owner_at s key)) (owner_in (queues_without s.queues tx key) key) refl refl;
   owned = λ s tx top key free. grant_tracks s (with_note (with_queued s tx key) (note.Grant tx top key)) tx top key refl refl free;
+}
+
+pub tracking : ClosedUnderAllSteps KeepsOwnersMatch
+tracking = record {
+  plain = tracking_plain;
+  changes = λ before after me acts now noted outbox queues. still before after noted queues;
+  notes = λ s r own lockless. noting_tracks s r lockless;
+  sends = λ s outs. still s (with_outs s outs) refl refl;
 }
 
 -- a record that is no lock changes nothing of who holds what

@@ -122,7 +122,7 @@ module _ {M S E : Type 0} (r : Rules S E) (limit passes : ℕ) (m : M) where
       at_place j u g h = let t = (k.views j u g).place n h in let below : n < length k.log = place_of k.log n t.1.0 t.1.1 in omega (arith, below, long)
 
       -- the place is still empty
-      empty : get_elem? s.session_nodes (r.parts + n) ≡ some (some Empty)
+      empty : get_elem? s.homes (r.parts + n) ≡ some (some Empty)
       empty = ⊎_elim (λ e. e.1)
           (λ f. ⊎_elim (λ g. absurd (let below : n < length k.log = place_of k.log n g.0 g.1 in omega (arith, below, long))) (λ a. absurd (at_place (k.writer n) a.0 a.1 a.2)) f)
           (k.places n room)
@@ -140,7 +140,7 @@ module _ {M S E : Type 0} (r : Rules S E) (limit passes : ℕ) (m : M) where
           (λ ne. (a.0, set_else s.views id o w ne ∙ a.1, a.2))
           (cases_eq o id)
 
-      pub joined : limit + passes < 2 ^ 64 → Kept r limit passes m record { words = set s.words 0 (n + 1); session_nodes = set s.session_nodes (r.parts + n) none; views = set s.views id w }
+      pub joined : limit + passes < 2 ^ 64 → Kept r limit passes m record { words = set s.words 0 (n + 1); homes = set s.homes (r.parts + n) none; views = set s.views id w }
       joined narrow = record {
         log = log';
         owner = k.owner;
@@ -149,18 +149,18 @@ module _ {M S E : Type 0} (r : Rules S E) (limit passes : ℕ) (m : M) where
         legal = legal';
         strangers = (λ q past. own_else q k.log entry (λ e. let b = (kv.mine number (number_in number me.0.numbers rd.numbers)).1 in omega (arith, b, past, e)) ∙ k.strangers q past);
         wide = length-set s.words 0 (n + 1) ∙ k.wide;
-        deep = length-set s.session_nodes (r.parts + n) none ∙ k.deep;
-        reserved = reserved_else r.parts limit (r.parts + n) s.session_nodes none (λ e. omega (arith, e, room)) k.reserved;
+        deep = length-set s.homes (r.parts + n) none ∙ k.deep;
+        reserved = reserved_else r.parts limit (r.parts + n) s.homes none (λ e. omega (arith, e, room)) k.reserved;
         counted = (let l = length-append k.log (entry ∷ []) in omega (arith, l, long, word0, room));
         numbers = (let t = total_set (λ (u : View M S E). length u.numbers) s.views id me.0 w at in let o = k.numbers in omega (arith, t, o));
         room = (let t = total_set (λ (u : View M S E). u.room) s.views id me.0 w at in let o = k.room in omega (arith, t, o, word0, room));
-        parts = (λ p lt. let apart : get_elem? (set s.session_nodes (r.parts + n) none) p ≡ get_elem? s.session_nodes p = set_else s.session_nodes (r.parts + n) p none (λ e. omega arith) in ⊎_elim
+        parts = (λ p lt. let apart : get_elem? (set s.homes (r.parts + n) none) p ≡ get_elem? s.homes p = set_else s.homes (r.parts + n) p none (λ e. omega arith) in ⊎_elim
             (λ home. inl (word p ∙ home.0, apart ∙ (home.1 ∙ ap (λ x. some (some (Part x))) (sym (value_out p (not_own p home.0))))))
             (λ out. inr (word p ∙ out.0, holds_set r limit passes m s.views id (k.owner p) p me.0 w at (held_still p) out.1))
             (k.parts p lt));
         places = (λ j lt. ⊎_elim
             (λ e. inr (inr (w, ap (λ o. get_elem? (set s.views id w) o) (ap (but k.writer n id) e ∙ but_same k.writer n id) ∙ here s.views id me.0 w at, ap Some (sym e))))
-            (λ ne. let apart : get_elem? (set s.session_nodes (r.parts + n) none) (r.parts + j) ≡ get_elem? s.session_nodes (r.parts + j) = set_else s.session_nodes (r.parts + n) (r.parts + j) none (λ e. ne (omega arith)) in ⊎_elim
+            (λ ne. let apart : get_elem? (set s.homes (r.parts + n) none) (r.parts + j) ≡ get_elem? s.homes (r.parts + j) = set_else s.homes (r.parts + n) (r.parts + j) none (λ e. ne (omega arith)) in ⊎_elim
             (λ b. inl (let l = length-append k.log (entry ∷ []) in let c = b.0 in omega (arith, l, c, long, ne), apart ∙ b.1))
             (λ f. inr (⊎_elim
             (λ g. inl (g.0, at_longer k.log (entry ∷ []) j g.0 g.1, apart ∙ g.2))
@@ -179,7 +179,7 @@ module _ {M S E : Type 0} (r : Rules S E) (limit passes : ℕ) (m : M) where
       v' : View M S E
       v' = full me.0 k.log
 
-      past_all : limit + passes < 2 ^ 64 → Kept r limit passes m record { words = set s.words 0 (n + 1); session_nodes = s.session_nodes; views = set s.views id (full me.0 k.log) }
+      past_all : limit + passes < 2 ^ 64 → Kept r limit passes m record { words = set s.words 0 (n + 1); homes = s.homes; views = set s.views id (full me.0 k.log) }
       past_all narrow = let some_room : 0 < me.0.room = kv.ready rd.ready in
           let word0 : slice_index (set s.words 0 (n + 1)) 0 ≡ n + 1 = get_or-set_same s.words 0 (n + 1) 0 (let h = k.wide in omega (arith, h)) in
           reviewed r limit passes m s k id (n + 1) me.0 (full me.0 k.log) at refl refl refl (omega arith) (omega (arith, past)) (omega (arith, past, some_room)) record {
@@ -195,7 +195,7 @@ module _ {M S E : Type 0} (r : Rules S E) (limit passes : ℕ) (m : M) where
           }
 
     abbrev Goes : ℕ → Type 0
-    Goes new = (w' : View M S E) × (a : Act (Slot S E)) × Valid s.session_nodes me.1 a × Kept r limit passes m (stepped s 0 new id me.1 w' a) × Commits r (step (length s.session_nodes) 0 1 0 none) me n (w', carried_after me.1 a)
+    Goes new = (w' : View M S E) × (a : Act (Slot S E)) × Valid s.homes me.1 a × Kept r limit passes m (stepped s 0 new id me.1 w' a) × Commits r (step (length s.homes) 0 1 0 none) me n (w', carried_after me.1 a)
 
     small : limit + passes < 2 ^ 64 → (n + 1) % 2 ^ 64 ≡ n + 1
     small narrow = let some_room : 0 < me.0.room = kv.ready rd.ready in let t = total_set (λ (u : View M S E). u.room) s.views id me.0 (full me.0 k.log) at in let o = k.room in mod-eq_of_lt (omega (arith, t, o, some_room, narrow))
@@ -248,6 +248,6 @@ module _ {M S E : Type 0} (mk : M → ℕ → Rules S E) (parts limit passes : �
       let kv = k.views id me.0 at in
       let n : ℕ = slice_index s.words 0 in
       let r : Rules S E = mk m parts in
-      let t = subst (λ new. (w : View M S E) × (a : Act (Slot S E)) × Valid s.session_nodes me.1 a × Kept (mk m parts) limit passes m (stepped s 0 new id me.1 w a) × Commits (mk m parts) (step slots 0 1 0 none) me n (w, carried_after me.1 a))
+      let t = subst (λ new. (w : View M S E) × (a : Act (Slot S E)) × Valid s.homes me.1 a × Kept (mk m parts) limit passes m (stepped s 0 new id me.1 w a) × Commits (mk m parts) (step slots 0 1 0 none) me n (w, carried_after me.1 a))
       (sym (small (mk m parts) limit passes m s k id number e ids olds news me at rd narrow)) (commits_at (mk m parts) limit passes m s k id number e ids olds news me at rd known narrow) in
       (t.0, t.1, t.2, t.3, λ mc e. let h = kv.machine mc e in subst (λ (z : M × ℕ). Commits (mk z.0 z.1) (step slots 0 1 0 none) me n (t.0, carried_after me.1 t.1)) (λ i. (sym h.0 i, sym (h.1 ∙ count) i)) t.4)

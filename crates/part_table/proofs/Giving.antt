@@ -34,7 +34,7 @@ module _ {M S E : Type 0} (r : Rules S E) (limit passes : ℕ) (m : M) where
     not_it : (q : ℕ) (y : S) → held_at q hs ≡ Some y → q ≢ p
     not_it q y h e = absurd (cc (sym once ∙ (ap (λ z. held_at z hs) (sym e) ∙ h)))
 
-    pub given : Kept r limit passes m record { words = set s.words (p + 1) 0; session_nodes = set s.session_nodes p (some (Part x)); views = set s.views id (without_first v hs) }
+    pub given : Kept r limit passes m record { words = set s.words (p + 1) 0; homes = set s.homes p (some (Part x)); views = set s.views id (without_first v hs) }
     given = let w : View M S E = without_first v hs in record {
       log = k.log;
       owner = k.owner;
@@ -43,20 +43,20 @@ module _ {M S E : Type 0} (r : Rules S E) (limit passes : ℕ) (m : M) where
       legal = k.legal;
       strangers = k.strangers;
       wide = length-set s.words (p + 1) 0 ∙ k.wide;
-      deep = length-set s.session_nodes p (some (Part x)) ∙ k.deep;
-      reserved = reserved_else r.parts limit p s.session_nodes (some (Part x)) (λ e. let g = mine.1 in omega (arith, e, g)) k.reserved;
+      deep = length-set s.homes p (some (Part x)) ∙ k.deep;
+      reserved = reserved_else r.parts limit p s.homes (some (Part x)) (λ e. let g = mine.1 in omega (arith, e, g)) k.reserved;
       counted = rw word0 k.counted;
       numbers = (let t = total_set (λ (u : View M S E). length u.numbers) s.views id v w at in let o = k.numbers in omega (arith, t, o));
       room = (let t = total_set (λ (u : View M S E). u.room) s.views id v w at in let o = k.room in omega (arith, t, o, word0));
       parts = (λ q lt. ⊎_elim
-          (λ e. subst (λ z. InPlace r limit passes m k.log (set s.words (p + 1) 0) (set s.session_nodes p (some (Part x))) (set s.views id w) k.owner z) (sym e)
-          (inl (get_or-set_same s.words (p + 1) 0 0 (let h = k.wide in let g = mine.1 in omega (arith, h, g)), set_here s.session_nodes p (some (Part x)) (let h = k.deep in let g = mine.1 in omega (arith, h, g)) ∙ ap (λ y. some (some (Part y))) mine.3)))
+          (λ e. subst (λ z. InPlace r limit passes m k.log (set s.words (p + 1) 0) (set s.homes p (some (Part x))) (set s.views id w) k.owner z) (sym e)
+          (inl (get_or-set_same s.words (p + 1) 0 0 (let h = k.wide in let g = mine.1 in omega (arith, h, g)), set_here s.homes p (some (Part x)) (let h = k.deep in let g = mine.1 in omega (arith, h, g)) ∙ ap (λ y. some (some (Part y))) mine.3)))
           (λ ne. ⊎_elim
-          (λ home. inl (word q ne ∙ home.0, set_else s.session_nodes p q (some (Part x)) ne ∙ home.1))
+          (λ home. inl (word q ne ∙ home.0, set_else s.homes p q (some (Part x)) ne ∙ home.1))
           (λ out. inr (word q ne ∙ out.0, holds_set r limit passes m s.views id (k.owner q) q v w at (λ y h. (y, sym (rest_held q ne) ∙ h)) out.1))
           (k.parts q lt))
           (cases_eq q p));
-      places = (λ j lt. let apart : get_elem? (set s.session_nodes p (some (Part x))) (r.parts + j) ≡ get_elem? s.session_nodes (r.parts + j) = set_else s.session_nodes p (r.parts + j) (some (Part x)) (λ e. let g = mine.1 in omega (arith, g, e)) in ⊎_elim
+      places = (λ j lt. let apart : get_elem? (set s.homes p (some (Part x))) (r.parts + j) ≡ get_elem? s.homes (r.parts + j) = set_else s.homes p (r.parts + j) (some (Part x)) (λ e. let g = mine.1 in omega (arith, g, e)) in ⊎_elim
           (λ b. inl (b.0, apart ∙ b.1))
           (λ f. inr (⊎_elim (λ g. inl (g.0, g.1, apart ∙ g.2)) (λ a. inr (is_at_set r limit passes m s.views id (k.writer j) j v w at refl a)) f))
           (k.places j lt));
@@ -92,7 +92,7 @@ module _ {M S E : Type 0} (r : Rules S E) (limit passes : ℕ) (m : M) where
     without_first me.0 hs,
     gives,
     tt,
-    subst (λ hm. Kept r limit passes m record { words = set s.words (p + 1) 0; session_nodes = hm; views = set s.views id (without_first me.0 hs) }) (sym (ap (put_back s.session_nodes) out)) (given s k id p me.0 x hs at held once),
+    subst (λ hm. Kept r limit passes m record { words = set s.words (p + 1) 0; homes = hm; views = set s.views id (without_first me.0 hs) }) (sym (ap (put_back s.homes) out)) (given s k id p me.0 x hs at held once),
     λ i. (without_first me.0 (rest_of (sym held i)), (ap rest out ∙ sym (ap rest_of out)) i),
   )
 
@@ -106,7 +106,7 @@ module _ {M S E : Type 0} (r : Rules S E) (limit passes : ℕ) (m : M) where
     below : j < limit
     below = let h : j < length k.log = place_of k.log j logged.0 logged.1 in let c = k.counted in omega (arith, h, c)
 
-    pub written : Kept r limit passes m record { words = s.words; session_nodes = set s.session_nodes (r.parts + j) (some (Place e)); views = set s.views id (placed v) }
+    pub written : Kept r limit passes m record { words = s.words; homes = set s.homes (r.parts + j) (some (Place e)); views = set s.views id (placed v) }
     written = let w : View M S E = placed v in record {
       log = k.log;
       owner = k.owner;
@@ -115,12 +115,12 @@ module _ {M S E : Type 0} (r : Rules S E) (limit passes : ℕ) (m : M) where
       legal = k.legal;
       strangers = k.strangers;
       wide = k.wide;
-      deep = length-set s.session_nodes (r.parts + j) (some (Place e)) ∙ k.deep;
-      reserved = reserved_else r.parts limit (r.parts + j) s.session_nodes (some (Place e)) (λ i. omega (arith, i, below)) k.reserved;
+      deep = length-set s.homes (r.parts + j) (some (Place e)) ∙ k.deep;
+      reserved = reserved_else r.parts limit (r.parts + j) s.homes (some (Place e)) (λ i. omega (arith, i, below)) k.reserved;
       counted = k.counted;
       numbers = (let t = total_set (λ (u : View M S E). length u.numbers) s.views id v w at in let o = k.numbers in omega (arith, t, o));
       room = (let t = total_set (λ (u : View M S E). u.room) s.views id v w at in let o = k.room in omega (arith, t, o));
-      parts = (λ p lt. let apart : get_elem? (set s.session_nodes (r.parts + j) (some (Place e))) p ≡ get_elem? s.session_nodes p = set_else s.session_nodes (r.parts + j) p (some (Place e)) (λ e. omega arith) in ⊎_elim
+      parts = (λ p lt. let apart : get_elem? (set s.homes (r.parts + j) (some (Place e))) p ≡ get_elem? s.homes p = set_else s.homes (r.parts + j) p (some (Place e)) (λ e. omega arith) in ⊎_elim
           (λ home. inl (home.0, apart ∙ home.1))
           (λ out. inr (out.0, holds_set r limit passes m s.views id (k.owner p) p v w at (λ y h. (y, h)) out.1))
           (k.parts p lt));
@@ -128,9 +128,9 @@ module _ {M S E : Type 0} (r : Rules S E) (limit passes : ℕ) (m : M) where
           (λ e'. inr (inl (
             logged.0,
             ap (λ z. get_elem? k.log z) e' ∙ logged.1,
-            ap (λ z. get_elem? (set s.session_nodes (r.parts + j) (some (Place e))) (r.parts + z)) e' ∙ (set_here s.session_nodes (r.parts + j) (some (Place e)) (let d = k.deep in omega (arith, d, below)) ∙ ap (λ y. some (some (Place y))) (sym logged.2)),
+            ap (λ z. get_elem? (set s.homes (r.parts + j) (some (Place e))) (r.parts + z)) e' ∙ (set_here s.homes (r.parts + j) (some (Place e)) (let d = k.deep in omega (arith, d, below)) ∙ ap (λ y. some (some (Place y))) (sym logged.2)),
           )))
-          (λ ne. let apart : get_elem? (set s.session_nodes (r.parts + j) (some (Place e))) (r.parts + q) ≡ get_elem? s.session_nodes (r.parts + q) = set_else s.session_nodes (r.parts + j) (r.parts + q) (some (Place e)) (λ e. ne (omega arith)) in ⊎_elim
+          (λ ne. let apart : get_elem? (set s.homes (r.parts + j) (some (Place e))) (r.parts + q) ≡ get_elem? s.homes (r.parts + q) = set_else s.homes (r.parts + j) (r.parts + q) (some (Place e)) (λ e. ne (omega arith)) in ⊎_elim
           (λ b. inl (b.0, apart ∙ b.1))
           (λ f. inr (⊎_elim (λ g. inl (g.0, g.1, apart ∙ g.2)) (λ a. inr (⊎_elim
           (λ i. let same : v ≡ a.0 = some-injective v a.0 (sym at ∙ (ap (λ z. get_elem? s.views z) (sym i) ∙ a.1)) in absurd (ne (sym (cc (sym place ∙ (ap (λ (u : View M S E). u.place) same ∙ a.2))))))
@@ -160,7 +160,7 @@ module _ {M S E : Type 0} (r : Rules S E) (limit passes : ℕ) (m : M) where
     placed me.0,
     gives,
     tt,
-    subst (λ (z : List ℕ × List (maybe.Option (Slot S E))). Kept r limit passes m record { words = z.0; session_nodes = z.1; views = set s.views id (placed me.0) })
-        (λ i. (sym (same_word s.words 0) i, ap (put_back s.session_nodes) (sym out) i)) (written s k id j me.0 e xs at place said),
+    subst (λ (z : List ℕ × List (maybe.Option (Slot S E))). Kept r limit passes m record { words = z.0; homes = z.1; views = set s.views id (placed me.0) })
+        (λ i. (sym (same_word s.words 0) i, ap (put_back s.homes) (sym out) i)) (written s k id j me.0 e xs at place said),
     λ i. (placed me.0, (ap rest out ∙ sym (ap rest_of out)) i),
   )

@@ -38,7 +38,7 @@ module _ {M S E : Type 0} (r : Rules S E) (limit passes : ℕ) (m : M) where
       → w.numbers ≡ v.numbers → w.held ≡ v.held → w.place ≡ v.place
       → slice_index s.words 0 ≤ n → min n limit ≡ min (slice_index s.words 0) limit → (n - limit) + w.room ≡ (slice_index s.words 0 - limit) + v.room
       → Knows r limit passes m k.log (set s.words 0 n) k.owner k.writer k.session_state id w
-      → Kept r limit passes m record { words = set s.words 0 n; session_nodes = s.session_nodes; views = set s.views id w }
+      → Kept r limit passes m record { words = set s.words 0 n; homes = s.homes; views = set s.views id w }
   reviewed s k id n v w at numbers held place up same_length same_room kw =
       let word : (p : ℕ) → slice_index (set s.words 0 n) (p + 1) ≡ slice_index s.words (p + 1) = (λ p. get_or-set_other s.words 0 (p + 1) n 0 (λ e. omega arith)) in
       let word0 : slice_index (set s.words 0 n) 0 ≡ n = get_or-set_same s.words 0 n 0 (let h = k.wide in omega (arith, h)) in record {
@@ -117,7 +117,7 @@ module _ {M S E : Type 0} (r : Rules S E) (limit passes : ℕ) (m : M) where
   pub looks : (slots id : ℕ) (me : Me (Slot S E) (View M S E)) (e : E) (xs : Vec S Global) → me.0.machine ≡ Some m → me.0.numbers ≢ [] → me.0.place ≡ None → Allows (Kept r limit passes m) slots id me 0 (λ n. either (n == 0) 0 n) (Looks (step slots 0 0 0 (some (Ask e xs))) me)
   looks slots id me e xs known active apart s k deep at fits =
       let kv = k.views id me.0 at in let n : ℕ = slice_index s.words 0 in let told = Looks (step slots 0 0 0 (some (Ask e xs))) me in
-      let Goes : ℕ → Type 0 = λ new. (w : View M S E) × (a : Act (Slot S E)) × Valid s.session_nodes me.1 a × Kept r limit passes m (stepped s 0 new id me.1 w a) × told n (w, carried_after me.1 a) in
+      let Goes : ℕ → Type 0 = λ new. (w : View M S E) × (a : Act (Slot S E)) × Valid s.homes me.1 a × Kept r limit passes m (stepped s 0 new id me.1 w a) × told n (w, carried_after me.1 a) in
       let same_limit : me.0.limit ≡ limit = (kv.machine m known).2 in
       subst Goes (sym (unmoved n)) (⊎_elim
       (λ (below : n < limit). let room : 0 < me.0.room = pos_if me.0.room (λ z. let o = kv.over active z in omega (arith, o, below)) in

@@ -38,8 +38,8 @@ pub but_else : (f : ℕ → ℕ) (p n q : ℕ) → q ≢ p → but f p n q ≡ f
 but_else f p n q ne = ap (λ b. if b then n else f q) (ne_eqb q p ne)
 
 -- what lies behind the journal lies there still, where another slot changed
-pub reserved_else : {S E : Type 0} (parts limit i : ℕ) (session_nodes : List (maybe.Option (Slot S E))) (o : maybe.Option (Slot S E)) → i ≢ parts + limit → Reserved parts limit session_nodes → Reserved parts limit (set session_nodes i o)
-reserved_else parts limit i session_nodes o ne h = (h.0, h.1, set_else session_nodes i (parts + limit) o (λ e. ne (sym e)) ∙ h.2, h.3)
+pub reserved_else : {S E : Type 0} (parts limit i : ℕ) (homes : List (maybe.Option (Slot S E))) (o : maybe.Option (Slot S E)) → i ≢ parts + limit → Reserved parts limit homes → Reserved parts limit (set homes i o)
+reserved_else parts limit i homes o ne h = (h.0, h.1, set_else homes i (parts + limit) o (λ e. ne (sym e)) ∙ h.2, h.3)
 
 pub same_word : (words : List ℕ) (i : ℕ) → set words i (slice_index words i) ≡ words
 same_word [] i = refl
@@ -124,7 +124,7 @@ module _ {M S E : Type 0} (r : Rules S E) (limit passes : ℕ) (m : M) where
 
   -- the part p goes out
   took : (s : St) (k : Kept r limit passes m s) (id p : ℕ) (v : Vw) (x : S) → get_elem? s.views id ≡ some v → p < r.parts → v.numbers ≢ [] → slice_index s.words (p + 1) ≡ 0 → x ≡ replay r k.log p
-      → Kept r limit passes m record { words = set s.words (p + 1) 1; session_nodes = set s.session_nodes p none; views = set s.views id (holding v p x) }
+      → Kept r limit passes m record { words = set s.words (p + 1) 1; homes = set s.homes p none; views = set s.views id (holding v p x) }
   took s k id p v x at in_range active free is =
       let w : Vw = holding v p x in
       let word0 : slice_index (set s.words (p + 1) 1) 0 ≡ slice_index s.words 0 = get_or-set_other s.words (p + 1) 0 1 0 (λ e. omega arith) in record {
@@ -135,20 +135,20 @@ module _ {M S E : Type 0} (r : Rules S E) (limit passes : ℕ) (m : M) where
         legal = k.legal;
         strangers = k.strangers;
         wide = length-set s.words (p + 1) 1 ∙ k.wide;
-        deep = length-set s.session_nodes p none ∙ k.deep;
-        reserved = reserved_else r.parts limit p s.session_nodes none (λ e. omega (arith, e, in_range)) k.reserved;
+        deep = length-set s.homes p none ∙ k.deep;
+        reserved = reserved_else r.parts limit p s.homes none (λ e. omega (arith, e, in_range)) k.reserved;
         counted = rw word0 k.counted;
         numbers = (let t = total_set (λ (u : Vw). length u.numbers) s.views id v w at in let n = k.numbers in omega (arith, t, n));
         room = (let t = total_set (λ (u : Vw). u.room) s.views id v w at in let n = k.room in omega (arith, t, n, word0));
         parts = (λ q lt. ⊎_elim
-            (λ e. subst (λ z. InPlace r limit passes m k.log (set s.words (p + 1) 1) (set s.session_nodes p none) (set s.views id w) (but k.owner p id) z) (sym e)
+            (λ e. subst (λ z. InPlace r limit passes m k.log (set s.words (p + 1) 1) (set s.homes p none) (set s.views id w) (but k.owner p id) z) (sym e)
             (inr (get_or-set_same s.words (p + 1) 1 0 (own_word s.words p k.wide in_range), subst (λ o. Holds (set s.views id w) o p) (sym (but_same k.owner p id)) (w, x, here s.views id v w at, held_new p x v.held (absent k.log s.words k.owner k.writer k.session_state id p v free (k.views id v at))))))
             (λ ne. let word : slice_index (set s.words (p + 1) 1) (q + 1) ≡ slice_index s.words (q + 1) = get_or-set_other s.words (p + 1) (q + 1) 1 0 (λ e. ne (omega arith)) in ⊎_elim
-            (λ home. inl (word ∙ home.0, set_else s.session_nodes p q none ne ∙ home.1))
+            (λ home. inl (word ∙ home.0, set_else s.homes p q none ne ∙ home.1))
             (λ out. inr (word ∙ out.0, subst (λ o. Holds (set s.views id w) o q) (sym (but_else k.owner p id q ne)) (holds_set s.views id (k.owner q) q v w at (λ y h. (y, held_more p q x v.held ne ∙ h)) out.1)))
             (k.parts q lt))
             (cases_eq q p));
-        places = (λ j lt. let apart : get_elem? (set s.session_nodes p none) (r.parts + j) ≡ get_elem? s.session_nodes (r.parts + j) = set_else s.session_nodes p (r.parts + j) none (λ e. omega arith) in ⊎_elim
+        places = (λ j lt. let apart : get_elem? (set s.homes p none) (r.parts + j) ≡ get_elem? s.homes (r.parts + j) = set_else s.homes p (r.parts + j) none (λ e. omega arith) in ⊎_elim
             (λ empty. inl (empty.0, apart ∙ empty.1))
             (λ full. inr (⊎_elim (λ f. inl (f.0, f.1, apart ∙ f.2)) (λ a. inr (is_at_set s.views id (k.writer j) j v w at refl a)) full))
             (k.places j lt));
@@ -159,14 +159,14 @@ module _ {M S E : Type 0} (r : Rules S E) (limit passes : ℕ) (m : M) where
       }
 
   -- nothing changes
-  stays : (s : St) (k : Kept r limit passes m s) (id i : ℕ) (v : Vw) → get_elem? s.views id ≡ some v → Kept r limit passes m record { words = set s.words i (slice_index s.words i); session_nodes = s.session_nodes; views = set s.views id v }
-  stays s k id i v at = subst (λ (z : List ℕ × List Vw). Kept r limit passes m record { words = z.0; session_nodes = s.session_nodes; views = z.1 }) (λ a. (sym (same_word s.words i) a, sym (set_again s.views id v at) a)) k
+  stays : (s : St) (k : Kept r limit passes m s) (id i : ℕ) (v : Vw) → get_elem? s.views id ≡ some v → Kept r limit passes m record { words = set s.words i (slice_index s.words i); homes = s.homes; views = set s.views id v }
+  stays s k id i v at = subst (λ (z : List ℕ × List Vw). Kept r limit passes m record { words = z.0; homes = s.homes; views = z.1 }) (λ a. (sym (same_word s.words i) a, sym (set_again s.views id v at) a)) k
 
   pub takes_part : (slots id p : ℕ) (me : Me (Slot S E) Vw) → p < r.parts → me.0.numbers ≢ [] → Allows (Kept r limit passes m) slots id me (p + 1) (λ n. either (n == 0) 1 n) (Takes (step slots (p + 1) 0 1 none) me)
   takes_part slots id p me in_range active s k deep at fits =
       let n : ℕ = slice_index s.words (p + 1) in let told = Takes (step slots (p + 1) 0 1 none) me in
       let held : S → Me (Slot S E) Vw = λ y. (holding me.0 (p + 1 - 1) y, (p + 1 - 1, Part y) ∷ me.1) in
-      let Goes : ℕ → Type 0 = λ new. (w : Vw) × (a : Act (Slot S E)) × Valid s.session_nodes me.1 a × Kept r limit passes m (stepped s (p + 1) new id me.1 w a) × told n (w, carried_after me.1 a) in
+      let Goes : ℕ → Type 0 = λ new. (w : Vw) × (a : Act (Slot S E)) × Valid s.homes me.1 a × Kept r limit passes m (stepped s (p + 1) new id me.1 w a) × told n (w, carried_after me.1 a) in
       exchanged n 0 1 Goes
       (λ free. let x : S = replay r k.log p in let back : p ≡ p + 1 - 1 = omega arith in
       let now : Me (Slot S E) Vw = (holding me.0 p x, (p, Part x) ∷ me.1) in ⊎_elim

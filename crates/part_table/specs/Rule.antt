@@ -20,11 +20,13 @@ count_up k zero = []
 count_up k (suc n) = k ∷ count_up (k + 1) n
 
 abbrev pub first_view : {M S E : Type 0} → M → ℕ → ℕ → ℕ → View M S E
-first_view m parts limit n = record { machine = Some m; parts = parts; limit = limit; numbers = count_up 0 n; room = n; seen = []; told = []; held = []; place = None; said = None; ready = false }
+first_view m parts limit n =
+    record { machine = Some m; parts = parts; limit = limit; numbers = count_up 0 n; room = n; seen = []; told = []; held = []; place = None; said = None; ready = false }
 
 -- the view of the first seat, once the passes below i have seats of their own
 abbrev pub dealt : {M S E : Type 0} → M → ℕ → ℕ → ℕ → ℕ → View M S E
-dealt m parts limit n i = record { machine = Some m; parts = parts; limit = limit; numbers = count_up i (n - i); room = n - i; seen = []; told = []; held = []; place = None; said = None; ready = false }
+dealt m parts limit n i =
+    record { machine = Some m; parts = parts; limit = limit; numbers = count_up i (n - i); room = n - i; seen = []; told = []; held = []; place = None; said = None; ready = false }
 
 -- the sum of f over all views
 abbrev pub total : {A : Type 0} → (A → ℕ) → List A → ℕ
@@ -52,20 +54,21 @@ pub record HasRoom {S E : Type 0} (parts limit : ℕ) (xs : Vec S Global) (es : 
 
 -- such lists lie behind the journal
 abbrev pub Reserved : {S E : Type 0} → ℕ → ℕ → List (maybe.Option (Slot S E)) → Type 0
-Reserved {S} {E} parts limit session_nodes = (xs : Vec S Global) × (es : Vec E Global) × (get_elem? session_nodes (parts + limit) ≡ some (some (Lists xs es))) × HasRoom parts limit xs es
+Reserved {S} {E} parts limit homes =
+    (xs : Vec S Global) × (es : Vec E Global) × (get_elem? homes (parts + limit) ≡ some (some (Lists xs es))) × HasRoom parts limit xs es
 
 module _ {M S E : Type 0} (r : Rules S E) (limit passes : ℕ) (m : M) (log : List (Entry S E)) where
   -- the part p lies at home with the history's value, or a seat has it
   abbrev pub InPlace : List ℕ → List (maybe.Option (Slot S E)) → List (View M S E) → (ℕ → ℕ) → ℕ → Type 0
-  InPlace words session_nodes views owner p =
-      ((slice_index words (p + 1) ≡ 0) × (get_elem? session_nodes p ≡ some (some (Part (replay r log p)))))
+  InPlace words homes views owner p =
+      ((slice_index words (p + 1) ≡ 0) × (get_elem? homes p ≡ some (some (Part (replay r log p)))))
       ⊎ ((slice_index words (p + 1) ≡ 1) × Holds views (owner p) p)
 
   -- the place j of the journal is empty, or has the event of the history, or a seat is at it
   abbrev pub Written : List (maybe.Option (Slot S E)) → List (View M S E) → (ℕ → ℕ) → ℕ → Type 0
-  Written session_nodes views writer j =
-      ((length log ≤ j) × (get_elem? session_nodes (r.parts + j) ≡ some (some Empty)))
-      ⊎ (((e : Entry S E) × (get_elem? log j ≡ some e) × (get_elem? session_nodes (r.parts + j) ≡ some (some (Place e.event))))
+  Written homes views writer j =
+      ((length log ≤ j) × (get_elem? homes (r.parts + j) ≡ some (some Empty)))
+      ⊎ (((e : Entry S E) × (get_elem? log j ≡ some e) × (get_elem? homes (r.parts + j) ≡ some (some (Place e.event))))
       ⊎ IsAt views (writer j) j)
 
   -- what the seat id knows is so
@@ -88,13 +91,13 @@ pub record Kept {M S E : Type 0} (r : Rules S E) (limit passes : ℕ) (m : M) (s
   pub legal : IsLegal r log
   pub strangers : (k : ℕ) → passes ≤ k → own k log ≡ []
   pub wide : length s.words ≡ r.parts + 1
-  pub deep : length s.session_nodes ≡ r.parts + limit + 1
-  pub reserved : Reserved r.parts limit s.session_nodes
+  pub deep : length s.homes ≡ r.parts + limit + 1
+  pub reserved : Reserved r.parts limit s.homes
   pub counted : length log ≡ min (slice_index s.words 0) limit
   pub numbers : total (λ (v : View M S E). length v.numbers) s.views ≡ passes
   pub room : (slice_index s.words 0 - limit) + total (λ (v : View M S E). v.room) s.views ≡ passes
-  pub parts : (p : ℕ) → p < r.parts → InPlace r limit passes m log s.words s.session_nodes s.views owner p
-  pub places : (j : ℕ) → j < limit → Written r limit passes m log s.session_nodes s.views writer j
+  pub parts : (p : ℕ) → p < r.parts → InPlace r limit passes m log s.words s.homes s.views owner p
+  pub places : (j : ℕ) → j < limit → Written r limit passes m log s.homes s.views writer j
   pub views : (id : ℕ) (v : View M S E) → get_elem? s.views id ≡ some v → Knows r limit passes m log s.words owner writer session_state id v
 
 -- a view that holds one part more

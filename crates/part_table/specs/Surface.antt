@@ -22,8 +22,10 @@ abbrev pub passes_of : {M S E : Type 0} → Parts M S E → ℕ
 passes_of t = t.table.shared.key.passes
 
 -- the meanings of the table's machine: the opening values, the parts that events touch, the relation
-abbrev pub rules_of : {M S E : Type 0} → Parts M S E → (M → ℕ → S) → (M → E → List ℕ) → (M → E → List S → List S → Type 0) → Rules S E
-rules_of t opening touches relates = rules t.table.shared.key.parts (opening (machine_of t)) (touches (machine_of t)) (relates (machine_of t))
+abbrev pub rules_of : {M S E : Type 0} → Parts M S E → (M → ℕ → S) → (M → E → List ℕ) → (M → E → List S → List S → Type 0) →
+    Rules S E
+rules_of t opening touches relates =
+    rules t.table.shared.key.parts (opening (machine_of t)) (touches (machine_of t)) (relates (machine_of t))
 
 -- a pass: its table with the machine and the bounds, its number, and the history that it has seen
 pub record PassView (M S E : Type 0) : Type 0 where

@@ -1,0 +1,4 @@
+pub mod LeavesMaps
+pub mod MapFacts
+pub mod MapInvariant
+pub mod MapLaws

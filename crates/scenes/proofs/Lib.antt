@@ -1,0 +1,15 @@
+pub mod DirectoryEvents
+pub mod EachRun
+pub mod Events
+pub mod Lanes
+pub mod Learned
+pub mod Links
+pub mod LostNodes
+pub mod Openings
+pub mod Parts
+pub mod Rows
+pub mod Runs
+pub mod Sounds
+pub mod ViewEvents
+pub mod Views
+pub mod Worlds
