@@ -1,0 +1,5 @@
+pub mod Histories
+pub mod Shape
+pub mod Verdict
+pub mod Told
+pub mod Ends

@@ -1,0 +1,2 @@
+pub mod ToolWords
+pub mod ToolsEnd
