@@ -23,7 +23,9 @@ fn words(rt: &(impl Env + AllocGlobal)) -> Option<Vec<String>> {
             if error.kind() == io::ErrorKind::OutOfMemory {
                 return None;
             }
-            words.push(String::from_str(rt.alloc(), NO_WORD).ok()?).ok()?;
+            words
+                .push(String::from_str(rt.alloc(), NO_WORD).ok()?)
+                .ok()?;
         }
     }
     Some(words)
