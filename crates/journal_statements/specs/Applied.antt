@@ -40,20 +40,20 @@ part_for maps before tx key = part_in key (option_and_then (map_of_version maps)
 
 -- a write in the dropped key's partition is applied at each live holder of that key
 abbrev pub drop_fits : List PartMap → List Noted → List Noted → TxId → Key → Key × Option (List ℕ) → Bool
-drop_fits maps recs before tx key w = not (nat_eq (part_for maps recs tx w.0) (part_for maps recs tx key))
-    || all_applied before tx w.0 (holders_of_key maps recs tx key)
+drop_fits maps whole before tx key w = not (nat_eq (part_for maps whole tx w.0) (part_for maps whole tx key))
+    || all_applied before tx w.0 (holders_of_key maps whole tx key)
 
--- `recs` are all records of the journal, so that a drop is looked at too where the commit decision stands behind it
+-- `whole` are all records of the journal, so that a drop is looked at too where the commit decision stands behind it
 abbrev pub synced_at : Journal → List PartMap → List Noted → List Noted → Option NodeId → Rec → Bool
-synced_at j maps recs before who (note.Apply tx top primary key new ver) = apply_fits j maps before who tx key new
-synced_at j maps recs before who (note.Drop tx key) = not (is_committed_before recs tx)
-    || list_all (drop_fits maps recs before tx key) (footprint j.groups tx).writes
-synced_at j maps recs before who r = true
+synced_at j maps whole before who (note.Apply tx top primary key new ver) = apply_fits j maps before who tx key new
+synced_at j maps whole before who (note.Drop tx key) = not (is_committed_before whole tx)
+    || list_all (drop_fits maps whole before tx key) (footprint j.groups tx).writes
+synced_at j maps whole before who r = true
 
 -- applies are those of committed writes at their holders, and a lock of a committed transaction is free only after them
 abbrev pub applied_whole : Journal → Bool
-applied_whole j = let recs = noted j.scenario j.groups in let maps = maps_installed j.scenario recs in
-    each_record (λ (before : List Noted) (n : Noted). synced_at j maps recs before n.node n.rec) recs
+applied_whole j = let whole = noted j.scenario j.groups in let maps = maps_installed j.scenario whole in
+    each_record (λ (before : List Noted) (n : Noted). synced_at j maps whole before n.node n.rec) whole
 
 abbrev pub told_of_applied : Journal → List PartMap → TxId → List Noted → Walk → Option Command → Answer → Bool
 told_of_applied j maps tx before w None a = true

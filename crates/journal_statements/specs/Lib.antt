@@ -1,3 +1,4 @@
+pub mod AnswersDue
 pub mod Applied
 pub mod Causes
 pub mod CopyFolds
