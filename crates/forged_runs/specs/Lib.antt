@@ -1,0 +1,3 @@
+pub mod Forgeries
+pub mod Forging
+pub mod LongBlocks
