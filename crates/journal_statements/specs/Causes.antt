@@ -18,7 +18,7 @@ use Rattle.journal_statements.specs.Noted.{Noted, maps_installed, noted}
 use Rattle.journal_statements.specs.Refusals.{refusals_fit}
 use Rattle.journal_statements.specs.Timeouts.{map_for}
 use Rattle.journal_statements.specs.Told.{access_fits}
-use Rattle.journal_statements.specs.Walks.{each_answer}
+use Rattle.journal_statements.specs.Walks.{Answered, each_answer, with_command}
 use Rattle.ignite_types.specs.declared.answer.Answer.TheVariants as answer
 use Rattle.ignite_types.specs.declared.scenario.Command.TheVariants as command
 use Rattle.ignite_types.specs.declared.journal.Rec.TheVariants as note
@@ -52,18 +52,18 @@ done_or_failed tx before w c (answer.Failed why) =
     meets_fault w c && list_any (λ (n : Noted). is_that_fault tx why n.rec) before
 done_or_failed tx before w c a = is_ok c a && access_fits w c a
 
-abbrev pub is_answer_due : TxId → List Noted → Walk → Command → Option Answer → Answer → Bool
-is_answer_due tx before w c None a = done_or_failed tx before w c a
-is_answer_due tx before w c (Some due) a = same_refused due a
+abbrev pub is_due_or_done : Answered → Command → Option Answer → Bool
+is_due_or_done a c None = done_or_failed a.tx a.before a.walk c a.answer
+is_due_or_done a c (Some due) = same_refused due a.answer
 
-abbrev pub answer_fits : List PartMap → TxId → List Noted → Walk → Option Command → Answer → Bool
-answer_fits maps tx before w None a = false
-answer_fits maps tx before w (Some c) a =
-    is_answer_due tx before w c (refusal_due (map_for maps w) (untold_fault tx before w) w c) a
+abbrev pub answer_fits : List PartMap → Answered → Command → Bool
+answer_fits maps a c =
+    is_due_or_done a c (refusal_due (map_for maps a.walk) (untold_fault a.tx a.before a.walk) a.walk c)
 
 -- each answer is the refusal that is due, or else the defined one or a fault
 abbrev pub answers_fit : Journal → Bool
-answers_fit j = let maps = maps_installed j.scenario (noted j.scenario j.groups) in each_answer (answer_fits maps) j
+answers_fit j = let maps = maps_installed j.scenario (noted j.scenario j.groups) in
+    each_answer (λ (a : Answered). with_command false (answer_fits maps a) a.walk.called) j
 
 abbrev pub causes : Journal → Bool
 causes j = answers_fit j && faults_fit j && refusals_fit j

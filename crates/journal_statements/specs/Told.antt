@@ -15,7 +15,7 @@ use Rattle.ignite_types.specs.declared.names.TxId.{TxId}
 use Rattle.ignite_types.specs.declared.scenario.Command.{Command}
 use Rattle.tx_model.specs.History.{Walk, is_access, is_bare, is_done, known_value}
 use Rattle.journal_statements.specs.Noted.{Noted, is_committed_before, noted}
-use Rattle.journal_statements.specs.Walks.{each_answer}
+use Rattle.journal_statements.specs.Walks.{Answered, each_answer, with_command}
 use Rattle.ignite_types.specs.declared.answer.Answer.TheVariants as answer
 use Rattle.ignite_types.specs.declared.scenario.Command.TheVariants as command
 use Rattle.ignite_types.specs.declared.message.Message.TheVariants as msg
@@ -72,13 +72,14 @@ closing_fits ever w (Some true) = w.committed
 closing_fits ever w (Some false) = not ever
 
 -- `whole` are all records of the journal, since no commit decision may stand behind the answer either
-abbrev pub told_of_call : List Noted → TxId → List Noted → Walk → Option Command → Answer → Bool
-told_of_call whole tx before w None a = true
-told_of_call whole tx before w (Some c) a = access_fits w c a && closing_fits (is_committed_before whole tx) w (closing w c a)
+abbrev pub answer_told : List Noted → Answered → Command → Bool
+answer_told whole a c = access_fits a.walk c a.answer
+    && closing_fits (is_committed_before whole a.tx) a.walk (closing a.walk c a.answer)
 
 -- each answered access answers what the footprint's values say, and each closing answer what was decided
 abbrev pub calls_told : Journal → Bool
-calls_told j = each_answer (told_of_call (noted j.scenario j.groups)) j
+calls_told j = let whole = noted j.scenario j.groups in
+    each_answer (λ (a : Answered). with_command true (answer_told whole a) a.walk.called) j
 
 -- Finds.
 
