@@ -1,8 +1,9 @@
 -- For each law beside the headline a forged journal that does not keep it.
 use Rattle.std.proofs.Common.{false, refl, true, ◌≡◌}
 use Rattle.forged_runs.specs.Forgeries.{circle_overlooked, put_at_two, two_wait}
-use Rattle.forged_runs.specs.ForgedLaws.{circle_of_no_moment, claim_of_older_map, decided_before_prepared, dropped_before_backup, map_above_share, no_owner_left, opened_before_installed, other_map_sent, server_joins, stalled_for_nothing, too_many_events, versions_shrink}
+use Rattle.forged_runs.specs.ForgedLaws.{circle_of_no_moment, claim_of_older_map, decided_before_prepared, dropped_before_backup, find_without_answer, map_above_share, no_owner_left, opened_before_installed, other_map_sent, server_joins, stalled_for_nothing, too_many_events, versions_shrink}
 use Rattle.forged_runs.specs.Forging.{honest}
+use Rattle.journal_statements.specs.Finds.{finds_fit}
 use Rattle.journal_statements.specs.Laws.{laws}
 use Rattle.journal_statements.specs.MapLaws.{one_coordinator, opened_when_installed, owners_left, switches_claimed}
 use Rattle.journal_statements.specs.SearchLaws.{no_circle_overlooked, reports_of_moment}
@@ -17,6 +18,9 @@ two_wait_keeps = refl
 
 server_joins_keeps : laws (honest server_joins) ≡ true
 server_joins_keeps = refl
+
+find_without_answer_refused : finds_fit find_without_answer ≡ false
+find_without_answer_refused = refl
 
 other_map_sent_refused : one_coordinator other_map_sent ≡ false
 other_map_sent_refused = refl

@@ -1,4 +1,4 @@
--- One key more than a transaction may touch: an untold fault comes before the number of keys, and the number of keys before a loss.
+-- One key more than a transaction may touch: an untold fault comes before the number of keys, and that before a loss.
 use Rattle.std.proofs.Common.{false, refl, true, ◌≡◌}
 use Rattle.forged_runs.specs.Forging.{honest}
 use Rattle.forged_runs.specs.LongBlocks.{deadline_and_one_more, loss_and_one_more, lost_for_too_many, too_many_for_fault}

@@ -1,11 +1,12 @@
 -- Forgeries that keep to no law beside the headline.
-use Rattle.std.specs.Prelude.{[], true, ◌++◌, ◌-◌, ◌∷◌}
+use Rattle.std.specs.Prelude.{[], map, true, ◌++◌, ◌-◌, ◌∷◌}
 use Rattle.ignite_types.specs.declared.journal.Journal.{Journal}
 use Rattle.ignite_types.specs.declared.placement.PartMap.{PartMap}
 use Rattle.ignite_types.specs.declared.scenario.Scenario.{Scenario}
 use Rattle.forged_runs.specs.Forgeries.{frees_first, owned_by, put_and_get, put_at_two, rolled_back_before_join, two_wait}
 use Rattle.forged_runs.specs.Forging.{Forgery, forged, forged_at, honest}
 use Rattle.machine_runs.specs.Words.{from_moment, join, numbered_node, numbered_server, plain_key, put_item, scenario, session_on, tx, version}
+use Rattle.ignite_types.specs.declared.answer.Answer.TheVariants as answer
 use Rattle.ignite_types.specs.declared.journal.End.TheVariants as end
 use Rattle.ignite_types.specs.declared.message.Message.TheVariants as msg
 use Rattle.ignite_types.specs.declared.journal.Rec.TheVariants as note
@@ -14,9 +15,18 @@ use Rattle.ignite_types.specs.declared.journal.Rec.TheVariants as note
 abbrev pub server_joins : Scenario
 server_joins = scenario 1 0 (numbered_server 1 ∷ []) (from_moment 1 (join (numbered_server 3)) ∷ []) []
 
+-- what is found does not come, and the session is told that nothing was there
+abbrev pub finds_nothing : Forgery
+finds_nothing (note.Deliver from (msg.LockOk t key found)) = []
+finds_nothing (note.Answer session (answer.Found value)) = note.Answer session answer.Absent ∷ []
+finds_nothing r = r ∷ []
+
+abbrev pub find_without_answer : Journal
+find_without_answer = forged finds_nothing put_and_get
+
 -- the coordinator sends another map than it has installed
 abbrev pub sends_other_map : Forgery
-sends_other_map (note.Sent to (msg.Full m)) = note.Sent to (msg.Full (record m { rows = owned_by 3 (record { owners = []; movers = [] }) ∷ [] })) ∷ []
+sends_other_map (note.Sent to (msg.Full m)) = note.Sent to (msg.Full (record m { rows = map (owned_by 3) m.rows })) ∷ []
 sends_other_map r = r ∷ []
 
 abbrev pub other_map_sent : Journal
@@ -61,7 +71,7 @@ decided_before_prepared = forged decides_first put_at_two
 
 -- a later map is installed at the backup while it takes its share
 abbrev pub later_map : PartMap
-later_map = record { top = version 2 0; parts = 1 ∷ []; rows = owned_by 2 (record { owners = []; movers = [] }) ∷ [] }
+later_map = record { top = version 2 0; parts = 1 ∷ []; rows = record { owners = numbered_node 2 ∷ []; movers = [] } ∷ [] }
 
 abbrev pub installs_later : Forgery
 installs_later (note.Deliver from (msg.BackupPrepare t top shares primary entries)) =

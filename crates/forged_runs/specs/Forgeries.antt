@@ -5,17 +5,14 @@ use Rattle.part_model.specs.Copies.{absent_version}
 use Rattle.ignite_types.specs.declared.answer.Answer.{Answer}
 use Rattle.ignite_types.specs.declared.answer.Fault.{Fault}
 use Rattle.ignite_types.specs.declared.journal.Journal.{Journal}
-use Rattle.ignite_types.specs.declared.journal.Rec.{Rec}
-use Rattle.ignite_types.specs.declared.list.List.{List}
 use Rattle.ignite_types.specs.declared.message.Edge.{Edge}
 use Rattle.ignite_types.specs.declared.names.CacheVersion.{CacheVersion}
-use Rattle.ignite_types.specs.declared.placement.PartMap.{PartMap}
 use Rattle.ignite_types.specs.declared.placement.Row.{Row}
 use Rattle.ignite_types.specs.declared.scenario.Cache.{Cache}
 use Rattle.ignite_types.specs.declared.scenario.Item.{Item}
 use Rattle.ignite_types.specs.declared.scenario.Scenario.{Scenario}
 use Rattle.forged_runs.specs.Forging.{Forgery, forged, forged_at}
-use Rattle.machine_runs.specs.Words.{begin, begin_optimistic, begin_within, commit, from_moment, get, hold, join, numbered_client, numbered_node, numbered_server, plain_key, put_item, scenario, session_on, sleep, tx, version}
+use Rattle.machine_runs.specs.Words.{begin, begin_optimistic, begin_within, commit, from_moment, get, hold, join, numbered_client, numbered_node, numbered_server, plain_key, put_item, scenario, session_on, sleep, version}
 use Rattle.ignite_types.specs.declared.answer.Answer.TheVariants as answer
 use Rattle.ignite_types.specs.declared.answer.Fail.TheVariants as fail
 use Rattle.ignite_types.specs.declared.answer.Fault.TheVariants as fault
@@ -91,7 +88,8 @@ held_link = scenario 1 0 (numbered_server 1 ∷ numbered_server 2 ∷ []) (from_
 -- the value that the transaction finds, and that it is told, is another one
 abbrev pub finds_two : Forgery
 finds_two (note.Sent to (msg.LockOk t key (Some (value, ver)))) = note.Sent to (msg.LockOk t key (Some (codes "2", ver))) ∷ []
-finds_two (note.Deliver from (msg.LockOk t key (Some (value, ver)))) = note.Deliver from (msg.LockOk t key (Some (codes "2", ver))) ∷ []
+finds_two (note.Deliver from (msg.LockOk t key (Some (value, ver)))) =
+    note.Deliver from (msg.LockOk t key (Some (codes "2", ver))) ∷ []
 finds_two (note.Answer session (answer.Found value)) = note.Answer session (answer.Found (codes "2")) ∷ []
 finds_two r = r ∷ []
 

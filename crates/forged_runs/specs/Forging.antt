@@ -1,6 +1,6 @@
 -- How a journal is forged: records of a run are changed, dropped or doubled where they stand, and its events stay.
 use Rattle.std.specs.List.{flat_map}
-use Rattle.std.specs.Prelude.{Bool, [], false, if◌then◌else◌, map, ℕ, ◌∷◌}
+use Rattle.std.specs.Prelude.{Bool, [], false, if◌then◌else◌, map, ℕ}
 use Rattle.ignite_types.specs.Names.{same_node}
 use Rattle.ignite_types.specs.declared.journal.Event.{Event}
 use Rattle.ignite_types.specs.declared.journal.Group.{Group}

@@ -1,13 +1,9 @@
 -- Forgeries of runs in which a transaction touches as many keys as it may, and then one more.
-use Prim.Native.String.{String}
-use Rattle.std.specs.Prelude.{Some, [], codes, false, if◌then◌else◌, nat_eq, suc, zero, ℕ, ◌*◌, ◌+◌, ◌++◌, ◌∷◌}
-use Rattle.ignite_types.specs.declared.answer.Answer.{Answer}
-use Rattle.ignite_types.specs.declared.answer.Fault.{Fault}
+use Rattle.std.specs.Prelude.{[], codes, false, if◌then◌else◌, nat_eq, suc, zero, ℕ, ◌*◌, ◌+◌, ◌++◌, ◌∷◌}
 use Rattle.ignite_types.specs.declared.journal.Journal.{Journal}
 use Rattle.ignite_types.specs.declared.list.List.{List}
 use Rattle.ignite_types.specs.declared.scenario.Item.{Item}
 use Rattle.ignite_types.specs.declared.scenario.Scenario.{Scenario}
-use Rattle.ignite_types.specs.declared.text.Key.{Key}
 use Rattle.act_rows.specs.Accesses.{most_keys}
 use Rattle.forged_runs.specs.Forging.{Forgery, forged}
 use Rattle.machine_runs.specs.Words.{from_moment, lose, numbered_node, numbered_server, scenario, session_on, sleep, tx}
@@ -55,12 +51,15 @@ abbrev pub byte_of : List ℕ → ℕ
 byte_of (byte ∷ []) = byte
 byte_of text = zero
 
+abbrev pub loss_of_primary : Fault
+loss_of_primary = fault.NodeLost (numbered_node 4)
+
 -- the loss is told in place of the number of keys
 abbrev pub answers_lost : Forgery
 answers_lost (note.Call session (command.Put key value)) = if nat_eq (byte_of key.text) 1
-    then note.Call session (command.Put key value) ∷ note.Fault (tx 1 1 1) (fault.NodeLost (numbered_node 4)) ∷ note.Decide (tx 1 1 1) false ∷ []
+    then note.Call session (command.Put key value) ∷ note.Fault (tx 1 1 1) loss_of_primary ∷ note.Decide (tx 1 1 1) false ∷ []
     else note.Call session (command.Put key value) ∷ []
-answers_lost (note.Answer session answer.TooManyKeys) = note.Answer session (answer.Failed (fault.NodeLost (numbered_node 4))) ∷ []
+answers_lost (note.Answer session answer.TooManyKeys) = note.Answer session (answer.Failed loss_of_primary) ∷ []
 answers_lost r = r ∷ []
 
 abbrev pub lost_for_too_many : Journal

@@ -1,7 +1,6 @@
 -- Which answer a command has to get in place of being done: the refusals, in the order in which they are tried.
-use Rattle.std.specs.List.{list_any}
 use Rattle.std.specs.Option.{option_map}
-use Rattle.std.specs.Prelude.{Bool, None, Option, Some, [], false, if◌then◌else◌, is_none, is_some, nat_eq, not, true, ℕ, ◌&&◌, ◌||◌, ◌∷◌}
+use Rattle.std.specs.Prelude.{Bool, None, Option, Some, [], false, if◌then◌else◌, is_some, nat_eq, not, true, ◌&&◌, ◌||◌, ◌∷◌}
 use Rattle.act_rows.specs.Accesses.{access_key}
 use Rattle.ignite_types.specs.Names.{same_node, same_tx}
 use Rattle.ignite_types.specs.declared.answer.Answer.{Answer}

@@ -3,6 +3,7 @@ pub mod Applied
 pub mod Causes
 pub mod CopyFolds
 pub mod Faults
+pub mod Finds
 pub mod Headline
 pub mod Laws
 pub mod LinkRecords

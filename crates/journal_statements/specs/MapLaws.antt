@@ -46,7 +46,8 @@ sent_by_coordinator scenario ts before who r = true
 -- the map of a version is handed out, and its opening is told, by the version's oldest member alone; the map is the installed one
 abbrev pub one_coordinator : Journal → Bool
 one_coordinator j = let ts = topologies j in
-    each_record (λ (before : List Noted) (n : Noted). sent_by_coordinator j.scenario ts before n.node n.rec) (noted j.scenario j.groups)
+    each_record (λ (before : List Noted) (n : Noted). sent_by_coordinator j.scenario ts before n.node n.rec)
+    (noted j.scenario j.groups)
 
 -- Opening.
 
@@ -95,7 +96,8 @@ owners_left_at scenario recs r = true
 
 -- in the highest map that is installed at a live node each partition that has owners has a live one
 abbrev pub owners_left : Journal → Bool
-owners_left j = each_record (λ (before : List Noted) (n : Noted). owners_left_at j.scenario (before ++ n ∷ []) n.rec) (noted j.scenario j.groups)
+owners_left j = each_record (λ (before : List Noted) (n : Noted). owners_left_at j.scenario (before ++ n ∷ []) n.rec)
+    (noted j.scenario j.groups)
 
 -- Claims.
 

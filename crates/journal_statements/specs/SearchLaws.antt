@@ -1,7 +1,8 @@
 -- More of searches than the headline says: a report is of one moment, and no search passes over a circle that stands.
 use Rattle.std.specs.List.{flat_map, list_all, list_any}
-use Rattle.std.specs.Prelude.{Bool, None, Option, Some, [], false, filter, if◌then◌else◌, map, not, true, ◌&&◌, ◌||◌, ◌∷◌}
-use Rattle.ignite_types.specs.Names.{same_key, same_node, same_tx}
+use Rattle.std.specs.Prelude.{Bool, None, Option, Some, [], filter, if◌then◌else◌, map, not, true, ◌&&◌, ◌||◌, ◌∷◌}
+use Rattle.part_model.specs.Cycles.{same_wait}
+use Rattle.ignite_types.specs.Names.{same_key}
 use Rattle.ignite_types.specs.declared.journal.Journal.{Journal}
 use Rattle.ignite_types.specs.declared.journal.Rec.{Rec}
 use Rattle.ignite_types.specs.declared.list.List.{List}
@@ -68,7 +69,7 @@ abbrev pub waits_standing : List Noted → List Wait
 waits_standing recs = flat_map (λ (n : Noted). waits_standing_by recs n.node n.rec) recs
 
 abbrev pub is_wait_among : List Wait → Wait → Bool
-is_wait_among waits w = list_any (λ (v : Wait). same_key v.key w.key && same_tx v.waiter w.waiter && same_tx v.holder w.holder) waits
+is_wait_among waits w = list_any (same_wait w) waits
 
 -- nobody is queued twice for one key, so a wait that stands at both ends stood all the time
 abbrev pub waits_throughout : List Noted → Option (List Noted) → List Wait
@@ -81,7 +82,8 @@ clear_search_fits before r = true
 
 -- no search ends without a report while a circle through its transaction stood from its beginning to its end
 abbrev pub no_circle_overlooked : Journal → Bool
-no_circle_overlooked j = each_record (λ (before : List Noted) (n : Noted). clear_search_fits before n.rec) (noted j.scenario j.groups)
+no_circle_overlooked j =
+    each_record (λ (before : List Noted) (n : Noted). clear_search_fits before n.rec) (noted j.scenario j.groups)
 
 abbrev pub search_laws : Journal → Bool
 search_laws j = reports_of_moment j && no_circle_overlooked j

@@ -1,4 +1,4 @@
--- The search of a transaction for a deadlock, as the records of its starter tell it: when it has found nothing, and when it was cut.
+-- The search of a transaction for a deadlock, as the records of its starter tell it: when it found nothing, and when it was cut.
 use Rattle.std.specs.List.{flat_map, list_all, list_any}
 use Rattle.std.specs.Prelude.{Bool, [], false, filter, if◌then◌else◌, length, map, max, nat_eq, nat_le, not, suc, take, true, zero, ℕ, ◌&&◌, ◌-◌, ◌||◌, ◌∷◌}
 use Rattle.part_model.specs.NextMap.{has_node}
@@ -98,8 +98,8 @@ not_left events nodes = filter (λ (id : NodeId). not (has_node (left_among even
 
 -- The two ends.
 
--- The search found nothing: in its last round each member that the starter did not see leave was asked, each node that was asked has
--- answered, no answer named a transaction for which that round did not ask, and the waits have no circle through the transaction.
+-- The search found nothing: in its last round each member that the starter did not see leave was asked, each node that was asked
+-- has answered, no answer named a transaction for which that round did not ask, and the waits have no circle through this one.
 abbrev pub is_clear : Scenario → List TopoEvent → List Rec → TxId → Bool
 is_clear scenario events own tx =
     let search = from_expire tx own in let round = last_round tx search in let waits = waits_brought tx search in
@@ -121,8 +121,8 @@ abbrev pub still_asked : Scenario → List TopoEvent → List Rec → TxId → L
 still_asked scenario events own tx =
     not_left (take (read_from 0 own - 1) events) (members_at_expire scenario events tx own)
 
--- The search lacks the answer of this node, of which the last event tells: it is one of those that are still asked, and none of them
--- has answered fewer rounds.
+-- The search lacks the answer of this node, of which the last event tells: it is one of those that are still asked, and none of
+-- them has answered fewer rounds.
 abbrev pub lacks_answer : Scenario → List TopoEvent → List Rec → TxId → NodeId → Bool
 lacks_answer scenario events own tx id =
     let search = from_expire tx own in let nodes = still_asked scenario events own tx in

@@ -1,10 +1,9 @@
 -- What holds of the shares of transactions at live nodes, in the world after every prefix of a journal's groups.
 use Rattle.std.specs.List.{flat_map, list_all, list_any}
-use Rattle.std.specs.Option.{option_map}
-use Rattle.std.specs.Prelude.{Bool, None, Option, Some, [], false, filter, if◌then◌else◌, map, not, option_to_list, true, ◌&&◌, ◌++◌, ◌||◌, ◌∷◌}
+use Rattle.std.specs.Prelude.{Bool, Option, Some, [], false, filter, if◌then◌else◌, map, not, option_to_list, true, ◌&&◌, ◌++◌, ◌||◌, ◌∷◌}
 use Rattle.act_rows.specs.Steps.{entry_of}
 use Rattle.part_model.specs.Orders.{is_lower_top}
-use Rattle.ignite_types.specs.Names.{same_node, same_tx, tx_cmp}
+use Rattle.ignite_types.specs.Names.{same_node, same_tx}
 use Rattle.ignite_types.specs.declared.journal.Group.{Group}
 use Rattle.ignite_types.specs.declared.journal.Journal.{Journal}
 use Rattle.ignite_types.specs.declared.journal.Rec.{Rec}
@@ -16,19 +15,15 @@ use Rattle.ignite_types.specs.declared.names.TxId.{TxId}
 use Rattle.ignite_types.specs.declared.placement.PartMap.{PartMap}
 use Rattle.ignite_types.specs.declared.placement.Share.{Share}
 use Rattle.ignite_types.specs.declared.scenario.Scenario.{Scenario}
-use Rattle.ignite_types.specs.declared.text.Key.{Key}
 use Rattle.node_state.specs.declared.near.TxEntry.{TxEntry}
 use Rattle.node_state.specs.declared.primary.BackupName.{BackupName}
 use Rattle.node_state.specs.declared.primary.BackupShare.{BackupShare}
 use Rattle.node_state.specs.declared.primary.OwnShare.{OwnShare}
-use Rattle.node_state.specs.Node.{NodeState}
-use Rattle.ordered_set.specs.Members.{has, with_member}
 use Rattle.tx_model.specs.History.{committed_in}
 use Rattle.tx_model.specs.Opening.{opening, session_nodes_from}
 use Rattle.tx_model.specs.World.{Part, World, is_alive_part, outcome}
-use Rattle.journal_statements.specs.Noted.{Homes, Noted, holders_of_key, is_committed_before, map_in, maps_installed, noted, noted_in}
-use Rattle.journal_statements.specs.SameMessages.{same_flag}
-use Rattle.ignite_types.specs.declared.placement.ShareState.TheVariants.{Committed, Prepared, Preparing, Undoing}
+use Rattle.journal_statements.specs.Noted.{Homes, Noted, holders_of_key, is_committed_before, maps_installed, noted, noted_in}
+use Rattle.ignite_types.specs.declared.placement.ShareState.TheVariants.{Committed, Prepared}
 use Rattle.ignite_types.specs.declared.journal.Rec.TheVariants as note
 
 -- A share as it stands at its holder.
@@ -96,8 +91,11 @@ shares_below_maps maps held = list_all (is_below_maps maps) held
 
 -- At a first commit decision.
 
+abbrev pub entries_of_tx : World → TxId → List TxEntry
+entries_of_tx w tx = flat_map (λ (p : Part). option_to_list (entry_of p.node tx)) (filter is_alive_part w.parts)
+
 abbrev pub shares_of_starter : World → TxId → List Share
-shares_of_starter w tx = flat_map (λ (e : TxEntry). e.shares) (flat_map (λ (p : Part). option_to_list (entry_of p.node tx)) (filter is_alive_part w.parts))
+shares_of_starter w tx = flat_map (λ (e : TxEntry). e.shares) (entries_of_tx w tx)
 
 abbrev pub shares_of_tx : World → List HeldAt → TxId → List Share
 shares_of_tx w held tx =
@@ -134,8 +132,11 @@ dropped_in maps before (Some id) (note.Drop tx key) =
     record { tx = tx; primary = id; holders = holders_of_key maps before tx key } ∷ []
 dropped_in maps before who r = []
 
+abbrev pub is_dropped_for : HeldAt → Dropped → Bool
+is_dropped_for h d = same_tx d.tx h.tx && same_node d.primary h.primary && list_any (same_node h.holder) d.holders
+
 abbrev pub is_over_for : List Dropped → HeldAt → Bool
-is_over_for drops h = not (is_open_share h) || list_all (λ (d : Dropped). not (same_tx d.tx h.tx && same_node d.primary h.primary && list_any (same_node h.holder) d.holders)) drops
+is_over_for drops h = not (is_open_share h) || not (list_any (is_dropped_for h) drops)
 
 -- no live holder of a dropped key's partition has an open share of the transaction for that primary
 abbrev pub drops_over : List Dropped → List HeldAt → Bool

@@ -1,6 +1,6 @@
 -- What holds up a run that stalls, how long a plain run may be, and that the versions that a node draws grow.
 use Rattle.std.specs.List.{flat_map, list_all, list_any}
-use Rattle.std.specs.Prelude.{Bool, None, Option, Some, [], false, if◌then◌else◌, is_none, is_some, length, max, nat_eq, nat_le, not, true, ℕ, ◌&&◌, ◌*◌, ◌+◌, ◌||◌, ◌∷◌}
+use Rattle.std.specs.Prelude.{Bool, [], false, if◌then◌else◌, is_none, is_some, length, max, nat_eq, nat_le, not, true, ℕ, ◌&&◌, ◌*◌, ◌+◌, ◌||◌, ◌∷◌}
 use Rattle.part_model.specs.Orders.{is_lower, is_lower_top}
 use Rattle.ignite_types.specs.Names.{same_node, same_tx}
 use Rattle.ignite_types.specs.declared.journal.End.{End}
@@ -16,9 +16,8 @@ use Rattle.ignite_types.specs.declared.scenario.Item.{Item}
 use Rattle.ignite_types.specs.declared.scenario.Scenario.{Scenario}
 use Rattle.ignite_types.specs.declared.scenario.Session.{Session}
 use Rattle.ignite_types.specs.declared.message.Wait.{Wait}
-use Rattle.tx_model.specs.History.{Walk, is_called}
+use Rattle.tx_model.specs.History.{Walk}
 use Rattle.tx_model.specs.Opening.{declared_nodes, ids_of, session_nodes_from}
-use Rattle.journal_statements.specs.Faults.{is_prepare_of}
 use Rattle.journal_statements.specs.LinkRecords.{any_link_keeps}
 use Rattle.journal_statements.specs.Noted.{Noted, is_lost, noted, recs_of}
 use Rattle.journal_statements.specs.SearchLaws.{waits_standing}
@@ -92,7 +91,8 @@ most_backups best [] = best
 most_backups best (c ∷ cs) = most_backups (max best c.backups) cs
 
 abbrev pub event_bound : Scenario → ℕ
-event_bound scenario = length (all_items scenario) * (15 + 8 * most_backups 0 scenario.caches + 4 * length (declared_nodes scenario))
+event_bound scenario =
+    length (all_items scenario) * (15 + 8 * most_backups 0 scenario.caches + 4 * length (declared_nodes scenario))
     + 2 * length scenario.sessions
 
 -- a run with no plan step, no timeout and no data command has no more events than that
