@@ -80,8 +80,8 @@ deadline_and_idle_cache = with_idle_cache (scenario 1 0 (numbered_server 1 ∷ [
     (session_on "A" 1 (begin_within 2 ∷ put_item "a" "1" ∷ sleep 5 ∷ get_idle "b" ∷ []) ∷ []))
 
 -- a link is held
-abbrev pub held_link : Scenario
-held_link = scenario 1 0 (numbered_server 1 ∷ numbered_server 2 ∷ []) (from_moment 1 (hold 1 2) ∷ []) []
+abbrev pub link_held_up : Scenario
+link_held_up = scenario 1 0 (numbered_server 1 ∷ numbered_server 2 ∷ []) (from_moment 1 (hold 1 2) ∷ []) []
 
 -- The forgeries.
 
@@ -257,4 +257,4 @@ refuses_hold (note.Planned place None) = note.Planned place (Some refusal.NotIn)
 refuses_hold r = r ∷ []
 
 abbrev pub hold_refused : Journal
-hold_refused = forged refuses_hold held_link
+hold_refused = forged refuses_hold link_held_up

@@ -65,9 +65,9 @@ held_at_part p = if is_alive_part p
 abbrev pub held_in : World → List HeldAt
 held_in w = flat_map held_at_part w.parts
 
-abbrev pub is_committed_state : ShareState → Bool
-is_committed_state Committed = true
-is_committed_state s = false
+abbrev pub is_share_committed : ShareState → Bool
+is_share_committed Committed = true
+is_share_committed s = false
 
 abbrev pub is_ready_state : ShareState → Bool
 is_ready_state Prepared = true
@@ -76,7 +76,7 @@ is_ready_state s = false
 
 -- Preparing, Prepared or Undoing
 abbrev pub is_open_share : HeldAt → Bool
-is_open_share h = not (is_committed_state h.state)
+is_open_share h = not (is_share_committed h.state)
 
 abbrev pub is_share_of : TxId → Share → HeldAt → Bool
 is_share_of tx share h = same_tx h.tx tx && same_node h.holder share.holder && same_node h.primary share.primary
@@ -150,7 +150,7 @@ is_still_held held h = list_any (is_share_of h.tx (record { holder = h.holder; p
 -- the transactions of which a live holder has just forgotten a Committed share
 abbrev pub forgotten_by : World → List HeldAt → List HeldAt → List TxId
 forgotten_by w earlier held = map (λ (h : HeldAt). h.tx)
-    (filter (λ (h : HeldAt). is_committed_state h.state && is_live_in w h.holder && not (is_still_held held h)) earlier)
+    (filter (λ (h : HeldAt). is_share_committed h.state && is_live_in w h.holder && not (is_still_held held h)) earlier)
 
 abbrev pub forgotten_over : List TxId → List HeldAt → Bool
 forgotten_over forgotten held = list_all (λ (h : HeldAt). not (is_open_share h) || not (list_any (same_tx h.tx) forgotten)) held
@@ -176,13 +176,13 @@ abbrev pub shares_fit : Scenario → Shared → Bool
 shares_fit scenario s = let held = held_in s.world in
     shares_below_maps (maps_installed scenario s.recs) held && drops_over s.drops held && forgotten_over s.forgotten held
 
-abbrev pub shares_from : Scenario → Homes → List PartMap → Shared → List Group → Bool
-shares_from scenario homes maps s [] = true
-shares_from scenario homes maps s (g ∷ gs) =
+abbrev pub shares_noted_from : Scenario → Homes → List PartMap → Shared → List Group → Bool
+shares_noted_from scenario homes maps s [] = true
+shares_noted_from scenario homes maps s (g ∷ gs) =
     let now = shared_after s maps (outcome s.world g.event).world (noted_in scenario homes g) in
-    list_all (commit_ready s.world s.recs) g.recs && shares_fit scenario now && shares_from scenario homes maps now gs
+    list_all (commit_ready s.world s.recs) g.recs && shares_fit scenario now && shares_noted_from scenario homes maps now gs
 
 abbrev pub share_laws : Journal → Bool
-share_laws j = shares_from j.scenario (session_nodes_from 1 [] j.scenario.sessions)
+share_laws j = shares_noted_from j.scenario (session_nodes_from 1 [] j.scenario.sessions)
     (maps_installed j.scenario (noted j.scenario j.groups))
     (record { world = opening j.scenario; recs = []; drops = []; forgotten = [] }) j.groups
