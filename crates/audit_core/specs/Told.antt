@@ -8,14 +8,14 @@ use Rattle.audit_core.specs.declared.verdict.EntryFault.TheVariants as fault
 use Rattle.audit_core.specs.declared.verdict.Finding.{Finding}
 use Rattle.audit_core.specs.declared.verdict.Finding.TheVariants as finding
 
-abbrev pub fault_text : EntryFault → Bytes
-fault_text fault.Twice = codes "twice"
-fault_text fault.VersionFalls = codes "version falls"
-fault_text (fault.Read key) = codes "read " ++ key
+abbrev pub entry_fault_text : EntryFault → Bytes
+entry_fault_text fault.Twice = codes "twice"
+entry_fault_text fault.VersionFalls = codes "version falls"
+entry_fault_text (fault.Read key) = codes "read " ++ key
 
 abbrev pub finding_text : Finding → Bytes
 finding_text finding.NoShape = codes "no shape"
-finding_text (finding.Entry place f) = codes "no at " ++ decimal place ++ codes ": " ++ fault_text f
+finding_text (finding.Entry place f) = codes "no at " ++ decimal place ++ codes ": " ++ entry_fault_text f
 finding_text (finding.Map key) = codes "no map " ++ key
 finding_text (finding.Yes n) = codes "yes " ++ decimal n
 

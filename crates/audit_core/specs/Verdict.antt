@@ -85,12 +85,12 @@ abbrev pub verdict_from : ℕ → Ledger → List HistoryEntry → List KeyChang
 verdict_from n l [] map = map_finding n (least_difference l.map map)
 verdict_from n l (e ∷ es) map = fault_or (n + 1) (entry_fault l e) (verdict_from (n + 1) (ledger_after l e) es map)
 
-abbrev pub verdict : History → Finding
-verdict h = verdict_from 0 new_ledger h.entries h.map
+abbrev pub verdict_of_history : History → Finding
+verdict_of_history h = verdict_from 0 new_ledger h.entries h.map
 
 abbrev pub finding_in : Option History → Finding
 finding_in None = finding.NoShape
-finding_in (Some h) = verdict h
+finding_in (Some h) = verdict_of_history h
 
 -- what there is to say of a JSON value
 abbrev pub finding_of : Data → Finding

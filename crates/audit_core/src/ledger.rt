@@ -3,7 +3,7 @@
 ghost use Rattle.std.specs.Prelude.{◌≡◌, IfOk, OnOk};
 ghost use Rattle.std.specs.Option.{option_copied};
 ghost use Rattle.audit_core.specs.Histories.{equal_values};
-ghost use Rattle.audit_core.specs.Verdict.{first_wrong_read, entry_fault, ledger_after, new_ledger};
+ghost use Rattle.audit_core.specs.Verdict.{entry_fault, first_wrong_read, ledger_after, new_ledger};
 
 use crate::history::{Change, HistoryEntry};
 use crate::tables::{NameSet, PlainMap};

@@ -4,7 +4,7 @@ ghost use Rattle.std.specs.Prelude.{◌≡◌, [], IfOk, OnOk};
 ghost use Rattle.std.specs.Option.{option_copied};
 ghost use Rattle.ordered_table.specs.Entries.{at, put, without};
 ghost use Rattle.audit_core.specs.Histories.{bytes_cmp};
-ghost use Rattle.audit_core.specs.Verdict.{is_among, with_name, change_in, changes_in};
+ghost use Rattle.audit_core.specs.Verdict.{change_in, changes_in, is_among, with_name};
 
 use crate::history::Change;
 use crate::text::LongText;

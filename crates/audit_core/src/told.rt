@@ -1,7 +1,7 @@
 //! What is told of a finding.
 
 ghost use Rattle.std.specs.Prelude.{◌≡◌, [], ◌∷◌, ◌++◌, decimal, OnOk, IfOk};
-ghost use Rattle.audit_core.specs.Told.{fault_text, finding_line, finding_status, finding_text};
+ghost use Rattle.audit_core.specs.Told.{entry_fault_text, finding_line, finding_status, finding_text};
 
 use crate::verdict::{EntryFault, Finding};
 use host_io::ToolStatus;
@@ -28,7 +28,7 @@ fn write_text(out: &mut Vec<u8>, text: &str) -> Mem<()>
 
 /// Writes what is wrong with an entry.
 fn write_fault(out: &mut Vec<u8>, fault: &EntryFault) -> Mem<()>
-    ensures { OnOk result (out.new.items ≡ out.old.items ++ fault_text fault.now) }
+    ensures { OnOk result (out.new.items ≡ out.old.items ++ entry_fault_text fault.now) }
 {
     match fault {
         EntryFault::Twice => write_text(out, "twice"),

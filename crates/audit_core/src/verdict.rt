@@ -1,7 +1,7 @@
 //! The verdict on a history.
 
 ghost use Rattle.std.specs.Prelude.{◌≡◌, IfOk};
-ghost use Rattle.audit_core.specs.Verdict.{least_difference, verdict};
+ghost use Rattle.audit_core.specs.Verdict.{least_difference, verdict_of_history};
 
 use crate::history::{Change, History};
 use crate::ledger::{Ledger, equal_values};
@@ -64,7 +64,7 @@ fn least_difference(
 
 /// Whether the history is one serial history of a plain map that ends as the given map, and else the first fault.
 pub fn verdict_on(alloc: Global, history: &History) -> Mem<Finding>
-    ensures { IfOk result (λ finding. finding ≡ verdict history.now) }
+    ensures { IfOk result (λ finding. finding ≡ verdict_of_history history.now) }
 {
     let mut ledger = Ledger::new(alloc);
     for (place, entry) in history.entries.as_slice().iter().enumerate() {

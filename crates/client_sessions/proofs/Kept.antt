@@ -9,7 +9,7 @@ use Rattle.ordered_table.specs.Entries.{at, put, without}
 use Rattle.ordered_table.specs.Places.{IsBelowAll, IsAscending}
 use Rattle.ordered_table.proofs.Ascending.{below_all-less, below_all-equal}
 use Rattle.ordered_table.proofs.Laws.{at_put_other}
-use Rattle.client_sessions.specs.Sequences.{entries_present, with_kept}
+use Rattle.client_sessions.specs.Sequences.{entries_present, with_entry_kept}
 
 module _ {K V : Type 0} (cmp : K → K → Ordering) (o : IsTotalOrder cmp) where
   at_below_all : (es : List (K × V)) (k : K) → IsBelowAll cmp k es → at cmp es k ≡ None
@@ -27,7 +27,7 @@ module _ {K V : Type 0} (cmp : K → K → Ordering) (o : IsTotalOrder cmp) wher
   kept_below : (k : K) (es : List (K × Option V)) → IsBelowAll cmp k es → IsBelowAll cmp k (entries_present es)
   kept_below k [] below = tt
   kept_below k (e ∷ es) below =
-      elim e.1 as (λ x. IsBelowAll cmp k (with_kept e.0 x (entries_present es))) [
+      elim e.1 as (λ x. IsBelowAll cmp k (with_entry_kept e.0 x (entries_present es))) [
         | None ↦ kept_below k es below.1
         | Some v ↦ (below.0, kept_below k es below.1)
       ]
@@ -43,16 +43,16 @@ module _ {K V : Type 0} (cmp : K → K → Ordering) (o : IsTotalOrder cmp) wher
   pub at_kept : (es : List (K × Option V)) (k : K) → IsAscending cmp es → at cmp (entries_present es) k ≡ option_and_then (λ x. x) (at cmp es k)
   at_kept [] k ascending = refl
   at_kept (e ∷ es) k ascending =
-      elim (cmp k e.0) as (λ r. cmp k e.0 ≡ r → at cmp (with_kept e.0 e.1 (entries_present es)) k ≡ option_and_then (λ x. x) (match_ordering r None (Some e.1) (at cmp es k))) [
-        | Less ↦ λ g. elim e.1 as (λ x. at cmp (with_kept e.0 x (entries_present es)) k ≡ None) [
+      elim (cmp k e.0) as (λ r. cmp k e.0 ≡ r → at cmp (with_entry_kept e.0 e.1 (entries_present es)) k ≡ option_and_then (λ x. x) (match_ordering r None (Some e.1) (at cmp es k))) [
+        | Less ↦ λ g. elim e.1 as (λ x. at cmp (with_entry_kept e.0 x (entries_present es)) k ≡ None) [
           | None ↦ at_below_all (entries_present es) k (below_less k e.0 es g ascending.0)
           | Some v ↦ rw g
         ]
-        | Equal ↦ λ g. elim e.1 as (λ x. at cmp (with_kept e.0 x (entries_present es)) k ≡ x) [
+        | Equal ↦ λ g. elim e.1 as (λ x. at cmp (with_entry_kept e.0 x (entries_present es)) k ≡ x) [
           | None ↦ at_below_all (entries_present es) k (below_equal k e.0 es g ascending.0)
           | Some v ↦ rw g
         ]
-        | Greater ↦ λ g. elim e.1 as (λ x. at cmp (with_kept e.0 x (entries_present es)) k ≡ option_and_then (λ x. x) (at cmp es k)) [
+        | Greater ↦ λ g. elim e.1 as (λ x. at cmp (with_entry_kept e.0 x (entries_present es)) k ≡ option_and_then (λ x. x) (at cmp es k)) [
           | None ↦ at_kept es k ascending.1
           | Some v ↦ rw g (at_kept es k ascending.1)
         ]
@@ -62,16 +62,16 @@ module _ {K V : Type 0} (cmp : K → K → Ordering) (o : IsTotalOrder cmp) wher
   pub kept_some : (es : List (K × Option V)) (k : K) (v : V) → IsAscending cmp es → entries_present (put cmp es k (Some v)) ≡ put cmp (entries_present es) k v
   kept_some [] k v ascending = refl
   kept_some (e ∷ es) k v ascending =
-      elim (cmp k e.0) as (λ r. cmp k e.0 ≡ r → entries_present (match_ordering r ((k, Some v) ∷ e ∷ es) ((k, Some v) ∷ es) (e ∷ put cmp es k (Some v))) ≡ put cmp (with_kept e.0 e.1 (entries_present es)) k v) [
-        | Less ↦ λ g. elim e.1 as (λ x. (k, v) ∷ with_kept e.0 x (entries_present es) ≡ put cmp (with_kept e.0 x (entries_present es)) k v) [
+      elim (cmp k e.0) as (λ r. cmp k e.0 ≡ r → entries_present (match_ordering r ((k, Some v) ∷ e ∷ es) ((k, Some v) ∷ es) (e ∷ put cmp es k (Some v))) ≡ put cmp (with_entry_kept e.0 e.1 (entries_present es)) k v) [
+        | Less ↦ λ g. elim e.1 as (λ x. (k, v) ∷ with_entry_kept e.0 x (entries_present es) ≡ put cmp (with_entry_kept e.0 x (entries_present es)) k v) [
           | None ↦ rw (put_below_all (entries_present es) k v (below_less k e.0 es g ascending.0))
           | Some w ↦ rw g
         ]
-        | Equal ↦ λ g. elim e.1 as (λ x. (k, v) ∷ entries_present es ≡ put cmp (with_kept e.0 x (entries_present es)) k v) [
+        | Equal ↦ λ g. elim e.1 as (λ x. (k, v) ∷ entries_present es ≡ put cmp (with_entry_kept e.0 x (entries_present es)) k v) [
           | None ↦ rw (put_below_all (entries_present es) k v (below_equal k e.0 es g ascending.0))
           | Some w ↦ rw g
         ]
-        | Greater ↦ λ g. elim e.1 as (λ x. with_kept e.0 x (entries_present (put cmp es k (Some v))) ≡ put cmp (with_kept e.0 x (entries_present es)) k v) [
+        | Greater ↦ λ g. elim e.1 as (λ x. with_entry_kept e.0 x (entries_present (put cmp es k (Some v))) ≡ put cmp (with_entry_kept e.0 x (entries_present es)) k v) [
           | None ↦ kept_some es k v ascending.1
           | Some w ↦ rw g (ap (λ r. (e.0, w) ∷ r) (kept_some es k v ascending.1))
         ]
@@ -81,16 +81,16 @@ module _ {K V : Type 0} (cmp : K → K → Ordering) (o : IsTotalOrder cmp) wher
   pub kept_none : (es : List (K × Option V)) (k : K) → IsAscending cmp es → entries_present (put cmp es k None) ≡ without cmp (entries_present es) k
   kept_none [] k ascending = refl
   kept_none (e ∷ es) k ascending =
-      elim (cmp k e.0) as (λ r. cmp k e.0 ≡ r → entries_present (match_ordering r ((k, None) ∷ e ∷ es) ((k, None) ∷ es) (e ∷ put cmp es k None)) ≡ without cmp (with_kept e.0 e.1 (entries_present es)) k) [
-        | Less ↦ λ g. elim e.1 as (λ x. with_kept e.0 x (entries_present es) ≡ without cmp (with_kept e.0 x (entries_present es)) k) [
+      elim (cmp k e.0) as (λ r. cmp k e.0 ≡ r → entries_present (match_ordering r ((k, None) ∷ e ∷ es) ((k, None) ∷ es) (e ∷ put cmp es k None)) ≡ without cmp (with_entry_kept e.0 e.1 (entries_present es)) k) [
+        | Less ↦ λ g. elim e.1 as (λ x. with_entry_kept e.0 x (entries_present es) ≡ without cmp (with_entry_kept e.0 x (entries_present es)) k) [
           | None ↦ rw (without_below_all (entries_present es) k (below_less k e.0 es g ascending.0))
           | Some w ↦ rw g
         ]
-        | Equal ↦ λ g. elim e.1 as (λ x. entries_present es ≡ without cmp (with_kept e.0 x (entries_present es)) k) [
+        | Equal ↦ λ g. elim e.1 as (λ x. entries_present es ≡ without cmp (with_entry_kept e.0 x (entries_present es)) k) [
           | None ↦ rw (without_below_all (entries_present es) k (below_equal k e.0 es g ascending.0))
           | Some w ↦ rw g
         ]
-        | Greater ↦ λ g. elim e.1 as (λ x. with_kept e.0 x (entries_present (put cmp es k None)) ≡ without cmp (with_kept e.0 x (entries_present es)) k) [
+        | Greater ↦ λ g. elim e.1 as (λ x. with_entry_kept e.0 x (entries_present (put cmp es k None)) ≡ without cmp (with_entry_kept e.0 x (entries_present es)) k) [
           | None ↦ kept_none es k ascending.1
           | Some w ↦ rw g (ap (λ r. (e.0, w) ∷ r) (kept_none es k ascending.1))
         ]

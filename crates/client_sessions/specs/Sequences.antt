@@ -11,14 +11,14 @@ use Rattle.ignite_types.specs.declared.scenario.Item.TheVariants as item
 abbrev pub Sequences : Type 0
 Sequences = List (Key × Option Range)
 
-abbrev pub with_kept : {K V : Type 0} → K → Option V → List (K × V) → List (K × V)
-with_kept k None more = more
-with_kept k (Some v) more = (k, v) ∷ more
+abbrev pub with_entry_kept : {K V : Type 0} → K → Option V → List (K × V) → List (K × V)
+with_entry_kept k None more = more
+with_entry_kept k (Some v) more = (k, v) ∷ more
 
 -- the entries that have something
 abbrev pub entries_present : {K V : Type 0} → List (K × Option V) → List (K × V)
 entries_present [] = []
-entries_present (e ∷ es) = with_kept e.0 e.1 (entries_present es)
+entries_present (e ∷ es) = with_entry_kept e.0 e.1 (entries_present es)
 
 -- the sequence that an item draws from has its place
 abbrev pub HasRoomFor : Sequences → Item → Type 0

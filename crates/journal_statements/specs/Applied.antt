@@ -5,7 +5,6 @@ use Rattle.std.specs.Prelude.{Bool, None, Option, Some, nat_eq, not, true, ℕ, 
 use Rattle.part_model.specs.Orders.{is_node}
 use Rattle.ignite_types.specs.Names.{same_key}
 use Rattle.ignite_types.specs.Placement.{part_of}
-use Rattle.ignite_types.specs.declared.answer.Answer.{Answer}
 use Rattle.ignite_types.specs.declared.journal.Journal.{Journal}
 use Rattle.ignite_types.specs.declared.journal.Rec.{Rec}
 use Rattle.ignite_types.specs.declared.list.List.{List}
@@ -14,11 +13,11 @@ use Rattle.ignite_types.specs.declared.names.TxId.{TxId}
 use Rattle.ignite_types.specs.declared.placement.PartMap.{PartMap}
 use Rattle.ignite_types.specs.declared.scenario.Command.{Command}
 use Rattle.ignite_types.specs.declared.text.Key.{Key}
-use Rattle.tx_model.specs.History.{Walk, footprint, same_value}
+use Rattle.tx_model.specs.History.{footprint, same_value}
 use Rattle.journal_statements.specs.Noted.{Noted, all_applied, each_record, holders_of_key, is_committed_before, map_of_version, maps_installed, noted, version_of_tx}
 use Rattle.journal_statements.specs.Told.{closing, is_told_committed}
 use Rattle.journal_statements.specs.Versions.{writes_applied}
-use Rattle.journal_statements.specs.Walks.{each_answer}
+use Rattle.journal_statements.specs.Walks.{Answered, each_answer, with_command}
 use Rattle.ignite_types.specs.declared.journal.Rec.TheVariants as note
 
 abbrev pub is_write : Key → Option (List ℕ) → Key × Option (List ℕ) → Bool
@@ -40,29 +39,28 @@ part_for maps before tx key = part_in key (option_and_then (map_of_version maps)
 
 -- a write in the dropped key's partition is applied at each live holder of that key
 abbrev pub drop_fits : List PartMap → List Noted → List Noted → TxId → Key → Key × Option (List ℕ) → Bool
-drop_fits maps recs before tx key w = not (nat_eq (part_for maps recs tx w.0) (part_for maps recs tx key))
-    || all_applied before tx w.0 (holders_of_key maps recs tx key)
+drop_fits maps whole before tx key w = not (nat_eq (part_for maps whole tx w.0) (part_for maps whole tx key))
+    || all_applied before tx w.0 (holders_of_key maps whole tx key)
 
--- `recs` are all records of the journal, so that a drop is looked at too where the commit decision stands behind it
+-- `whole` are all records of the journal, so that a drop is looked at too where the commit decision stands behind it
 abbrev pub synced_at : Journal → List PartMap → List Noted → List Noted → Option NodeId → Rec → Bool
-synced_at j maps recs before who (note.Apply tx top primary key new ver) = apply_fits j maps before who tx key new
-synced_at j maps recs before who (note.Drop tx key) = not (is_committed_before recs tx)
-    || list_all (drop_fits maps recs before tx key) (footprint j.groups tx).writes
-synced_at j maps recs before who r = true
+synced_at j maps whole before who (note.Apply tx top primary key new ver) = apply_fits j maps before who tx key new
+synced_at j maps whole before who (note.Drop tx key) = not (is_committed_before whole tx)
+    || list_all (drop_fits maps whole before tx key) (footprint j.groups tx).writes
+synced_at j maps whole before who r = true
 
 -- applies are those of committed writes at their holders, and a lock of a committed transaction is free only after them
 abbrev pub applied_whole : Journal → Bool
-applied_whole j = let recs = noted j.scenario j.groups in let maps = maps_installed j.scenario recs in
-    each_record (λ (before : List Noted) (n : Noted). synced_at j maps recs before n.node n.rec) recs
+applied_whole j = let whole = noted j.scenario j.groups in let maps = maps_installed j.scenario whole in
+    each_record (λ (before : List Noted) (n : Noted). synced_at j maps whole before n.node n.rec) whole
 
-abbrev pub told_of_applied : Journal → List PartMap → TxId → List Noted → Walk → Option Command → Answer → Bool
-told_of_applied j maps tx before w None a = true
-told_of_applied j maps tx before w (Some c) a = not (is_told_committed (closing w c a)) || writes_applied j maps before tx
+abbrev pub applied_if_told : Journal → List PartMap → Answered → Command → Bool
+applied_if_told j maps a c = not (is_told_committed (closing a.walk c a.answer)) || writes_applied j maps a.before a.tx
 
 -- a transaction is told committed only when its writes are applied at each live holder
 abbrev pub told_when_applied : Journal → Bool
-told_when_applied j =
-    let maps = maps_installed j.scenario (noted j.scenario j.groups) in each_answer (told_of_applied j maps) j
+told_when_applied j = let maps = maps_installed j.scenario (noted j.scenario j.groups) in
+    each_answer (λ (a : Answered). with_command true (applied_if_told j maps a) a.walk.called) j
 
 -- what is committed is applied whole, before it is told and before its locks are free
 abbrev pub full_sync : Journal → Bool

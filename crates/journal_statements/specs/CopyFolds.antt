@@ -1,5 +1,5 @@
 -- What each node keeps, as its records tell it, and that it is the serial map wherever no commit is in work.
-use Rattle.std.specs.Prelude.{Bool, None, Option, Some, [], false, filter, if◌then◌else◌, is_some, map, ◌&&◌, ◌∷◌}
+use Rattle.std.specs.Prelude.{Bool, None, Option, Some, [], false, filter, if◌then◌else◌, is_some, ◌&&◌, ◌∷◌}
 use Rattle.act_rows.specs.NewNodes.{map_if, opening_map_of}
 use Rattle.act_rows.specs.Steps.{is_mover_in, is_owner_in}
 use Rattle.part_model.specs.Copies.{Copy, copy_after_supply, copy_after_write}

@@ -1,11 +1,11 @@
 -- When a transaction may fail: what stands before each of its faults.
 use Rattle.std.specs.List.{flat_map, list_any}
 use Rattle.std.specs.Option.{option_and_then}
-use Rattle.std.specs.Prelude.{Bool, None, Option, Some, [], false, if◌then◌else◌, not, option_to_list, true, ◌&&◌, ◌++◌, ◌||◌, ◌∷◌}
+use Rattle.std.specs.Prelude.{Bool, None, Option, Some, [], false, filter, if◌then◌else◌, not, option_to_list, true, ◌&&◌, ◌++◌, ◌||◌, ◌∷◌}
 use Rattle.tx_model.specs.History.{Walk}
 use Rattle.act_rows.specs.Accesses.{access_key}
 use Rattle.act_rows.specs.Stores.{version_of}
-use Rattle.part_model.specs.Copies.{Found, absent_version, found_in}
+use Rattle.part_model.specs.Copies.{Found, found_in}
 use Rattle.part_model.specs.Orders.{is_node}
 use Rattle.ignite_types.specs.Names.{key_cmp, same_tx}
 use Rattle.ignite_types.specs.Placement.{primary_of}
@@ -24,8 +24,8 @@ use Rattle.ordered_table.specs.Entries.{at}
 use Rattle.journal_statements.specs.CopyFolds.{kept_by}
 use Rattle.journal_statements.specs.Noted.{Noted, is_lost, maps_installed, noted, recs_of}
 use Rattle.journal_statements.specs.SameMessages.{same_cache_version}
-use Rattle.journal_statements.specs.SearchRecords.{is_clear, search_awaits, search_by}
-use Rattle.journal_statements.specs.Timeouts.{is_timed_out, keys_done, map_for, was_waiting}
+use Rattle.journal_statements.specs.SearchRecords.{is_clear, lacks_answer}
+use Rattle.journal_statements.specs.Timeouts.{is_past_most, is_timed_out, keys_done, map_for, was_waiting}
 use Rattle.journal_statements.specs.Topologies.{topology_events}
 use Rattle.journal_statements.specs.Waits.{holds_after, is_true_deadlock}
 use Rattle.journal_statements.specs.Walks.{each_with_tx}
@@ -45,14 +45,15 @@ abbrev pub before_prepare : TxId → List Rec → List Rec → Option (List Rec)
 before_prepare tx before [] = None
 before_prepare tx before (r ∷ rs) = if is_prepare_of tx r then Some before else before_prepare tx (before ++ r ∷ []) rs
 
-abbrev pub version_in : Option Found → CacheVersion
-version_in None = absent_version
-version_in (Some found) = version_of found
+-- the transaction has found this version at the key; of a key that it only wrote it has found none
+abbrev pub is_version_found : CacheVersion → Option Found → Bool
+is_version_found had None = false
+is_version_found had (Some found) = same_cache_version (version_of found) had
 
 -- the key has this version at the primary, and the transaction has found another one
 abbrev pub is_changed : Journal → Walk → NodeId → Key → CacheVersion → CacheVersion → Option (List Rec) → Bool
 is_changed j w primary key had v None = false
-is_changed j w primary key had v (Some own) = same_cache_version (version_in (at key_cmp w.finds key)) had
+is_changed j w primary key had v (Some own) = is_version_found had (at key_cmp w.finds key)
     && same_cache_version (version_of (found_in (kept_by j.scenario primary own).copy key)) v
     && not (same_cache_version had v)
 
@@ -89,24 +90,28 @@ has_true_report j tx before =
 
 -- The faults.
 
--- the node is the primary of a key that the transaction touches
+-- the pending key, unless it is one too many
+abbrev pub pending_key : Walk → List Key
+pending_key w = filter (λ (key : Key). not (is_past_most w key)) (option_to_list (option_and_then access_key w.called))
+
+-- the node is the primary of a key of the transaction
 abbrev pub is_primary_for : List PartMap → Walk → NodeId → Bool
-is_primary_for maps w id = list_any (λ (key : Key). is_node id (primary_in (map_for maps w) key))
-    (keys_done w ++ option_to_list (option_and_then access_key w.called))
+is_primary_for maps w id =
+    list_any (λ (key : Key). is_node id (primary_in (map_for maps w) key)) (keys_done w ++ pending_key w)
 
 abbrev pub timeout_fits : Journal → List PartMap → TxId → List Noted → Bool
-timeout_fits j maps tx before = let events = topology_events j.scenario j.groups in
-    not (was_waiting maps tx before) || is_clear events (recs_of tx.node before) tx (search_by j.scenario events tx before)
+timeout_fits j maps tx before = not (was_waiting maps tx before)
+    || is_clear j.scenario (topology_events j.scenario j.groups) (recs_of tx.node before) tx
 
-abbrev pub cut_fits : Journal → TxId → List Noted → NodeId → Bool
-cut_fits j tx before id = is_lost before id
-    && search_awaits id (search_by j.scenario (topology_events j.scenario j.groups) tx before)
+abbrev pub cut_fits : Journal → List PartMap → TxId → List Noted → NodeId → Bool
+cut_fits j maps tx before id = is_lost before id && was_waiting maps tx before
+    && lacks_answer j.scenario (topology_events j.scenario j.groups) (recs_of tx.node before) tx id
 
 abbrev pub fault_fits : Journal → List PartMap → TxId → List Noted → Walk → Fault → Bool
 fault_fits j maps tx before w (fault.Check why) =
     check_fails j tx w before why (primary_in (map_for maps w) (key_of_fail why))
 fault_fits j maps tx before w fault.Deadlock = is_timed_out tx before && has_true_report j tx before
-fault_fits j maps tx before w (fault.Cut id) = is_timed_out tx before && cut_fits j tx before id
+fault_fits j maps tx before w (fault.Cut id) = is_timed_out tx before && cut_fits j maps tx before id
 fault_fits j maps tx before w fault.Timeout = is_timed_out tx before && timeout_fits j maps tx before
 fault_fits j maps tx before w (fault.NodeLost id) = is_lost before id && is_primary_for maps w id
 

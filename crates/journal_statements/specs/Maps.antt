@@ -1,6 +1,6 @@
 -- Each version has one map: the opening map, or the next map that its oldest member makes of the singles of all members.
 use Rattle.std.specs.List.{flat_map, list_all, list_any}
-use Rattle.std.specs.Prelude.{Bool, None, Option, Some, [], drop, false, filter, if◌then◌else◌, is_some, length, map, nat_eq, not, take, true, ℕ, ◌&&◌, ◌+◌, ◌∷◌}
+use Rattle.std.specs.Prelude.{Bool, None, Option, Some, [], drop, false, filter, if◌then◌else◌, is_some, length, nat_eq, not, take, true, ℕ, ◌&&◌, ◌+◌, ◌∷◌}
 use Rattle.act_rows.specs.NewNodes.{opening_map_of}
 use Rattle.act_rows.specs.Exchange.{all_sent}
 use Rattle.part_model.specs.Directory.{oldest_member, running_from}

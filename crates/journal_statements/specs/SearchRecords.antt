@@ -1,107 +1,130 @@
--- The search of a transaction, as the records of its starter tell it: which round it is in, and what its answers have brought.
-use Rattle.std.specs.Cmp.Lexicographic.{pointwise}
-use Rattle.std.specs.List.{list_all, list_any}
-use Rattle.std.specs.Option.{option_map}
-use Rattle.std.specs.Prelude.{Bool, None, Option, Some, [], false, filter, if◌then◌else◌, is_none, length, nat_eq, not, take, ℕ, ◌&&◌, ◌+◌, ◌∷◌}
-use Rattle.act_rows.specs.Searches.{new_search, search_with_answer, with_named}
-use Rattle.part_model.specs.Cycles.{cycle_through}
-use Rattle.part_model.specs.Directory.{node_set}
+-- The search of a transaction for a deadlock, as the records of its starter tell it: when it found nothing, and when it was cut.
+use Rattle.std.specs.List.{flat_map, list_all, list_any}
+use Rattle.std.specs.Prelude.{Bool, [], false, filter, if◌then◌else◌, length, map, max, nat_eq, nat_le, not, suc, take, true, zero, ℕ, ◌&&◌, ◌-◌, ◌||◌, ◌∷◌}
 use Rattle.part_model.specs.NextMap.{has_node}
-use Rattle.ignite_types.specs.Names.{node_cmp, same_node, same_tx}
-use Rattle.ignite_types.specs.Placement.{capped}
+use Rattle.ignite_types.specs.Names.{same_node, same_tx, tx_cmp}
 use Rattle.ignite_types.specs.declared.journal.Rec.{Rec}
 use Rattle.ignite_types.specs.declared.journal.TopoEvent.{TopoEvent}
 use Rattle.ignite_types.specs.declared.list.List.{List}
-use Rattle.ignite_types.specs.declared.message.Edge.{Edge}
 use Rattle.ignite_types.specs.declared.message.Wait.{Wait}
 use Rattle.ignite_types.specs.declared.names.NodeId.{NodeId}
 use Rattle.ignite_types.specs.declared.names.TxId.{TxId}
+use Rattle.ignite_types.specs.declared.scenario.Member.{Member}
 use Rattle.ignite_types.specs.declared.scenario.Scenario.{Scenario}
-use Rattle.node_state.specs.declared.near.Search.{Search}
-use Rattle.ordered_set.specs.Members.{has}
-use Rattle.journal_statements.specs.Noted.{Noted, recs_of}
-use Rattle.journal_statements.specs.Topologies.{first_topology, last_topology, left_among, read_from}
+use Rattle.ordered_set.specs.Members.{has, with_member}
+use Rattle.journal_statements.specs.Topologies.{first_topology, last_topology, left_among, read_from, seen_events}
+use Rattle.journal_statements.specs.Waits.{from_expire, until_expire}
 use Rattle.ignite_types.specs.declared.message.Message.TheVariants as msg
 use Rattle.ignite_types.specs.declared.journal.Rec.TheVariants as note
 
--- So far: how many topology events the starter has seen, and the search, where it has begun.
-pub record Sought : Type 0 where
-  pub read : ℕ
-  pub search : Option Search
+-- Waits, and circles of waits.
 
--- the members of the last version that was seen, and the nodes among them that were seen to leave since
-abbrev pub members_at : Scenario → List TopoEvent → ℕ → List NodeId
-members_at scenario events read = node_set [] (last_topology (first_topology scenario) (take read events)).members
+-- also those for whom a member of the set waits
+abbrev pub with_holders_awaited : List Wait → List TxId → List TxId
+with_holders_awaited [] set = set
+with_holders_awaited (w ∷ ws) set =
+    with_holders_awaited ws (if has tx_cmp set w.waiter then with_member tx_cmp set w.holder else set)
 
-abbrev pub still_live : List TopoEvent → ℕ → List NodeId → List NodeId
-still_live events read nodes = filter (λ (id : NodeId). not (has_node (left_among (take read events)) id)) nodes
+abbrev pub awaited_within : ℕ → List Wait → List TxId → List TxId
+awaited_within zero waits set = set
+awaited_within (suc steps) waits set = awaited_within steps waits (with_holders_awaited waits set)
 
--- nobody is awaited, no circle was found and a new transaction was named: the next round asks for all of them
-abbrev pub next_if_named : List TopoEvent → ℕ → TxId → Search → List TxId → Search
-next_if_named events read tx x named = if nat_eq (length named) (length x.known) then x
-    else record x { round = capped x.round 1; awaited = still_live events read x.members; known = named }
+abbrev pub with_txs : List TxId → List TxId → List TxId
+with_txs set [] = set
+with_txs set (t ∷ ts) = with_txs (with_member tx_cmp set t) ts
 
-abbrev pub next_unless_circle : List TopoEvent → ℕ → TxId → Search → Option (List Edge) → Search
-next_unless_circle events read tx x None = next_if_named events read tx x (with_named x.known x.edges)
-next_unless_circle events read tx x (Some circle) = x
+-- for whom the transaction itself waits
+abbrev pub awaited_by : TxId → List Wait → List TxId
+awaited_by tx waits = with_txs [] (map (λ (w : Wait). w.holder) (filter (λ (w : Wait). same_tx w.waiter tx) waits))
 
-abbrev pub next_if_all : List TopoEvent → ℕ → TxId → Search → Search
-next_if_all events read tx x = if nat_eq (length x.awaited) 0
-    then next_unless_circle events read tx x (cycle_through tx x.edges)
-    else x
+-- the transaction waits, by way of others, for itself
+abbrev pub has_circle : TxId → List Wait → Bool
+has_circle tx waits = has tx_cmp (awaited_within (length waits) waits (awaited_by tx waits)) tx
 
--- an answer of the round in work is kept
-abbrev pub search_after : List TopoEvent → ℕ → TxId → NodeId → ℕ → ℕ → List Wait → Search → Search
-search_after events read tx from round act waits x = if nat_eq x.round round && has node_cmp x.awaited from
-    then next_if_all events read tx (search_with_answer x from act waits)
-    else x
+-- Questions and answers of a transaction's search, among the records of its starter behind the expiry.
 
-abbrev pub sought_after : Scenario → List TopoEvent → TxId → Sought → Rec → Sought
-sought_after scenario events tx s (note.See place) = record s { read = place + 1 }
-sought_after scenario events tx s (note.Expire u) =
-    if same_tx u tx then record s { search = Some (new_search (members_at scenario events s.read) tx) } else s
-sought_after scenario events tx s (note.Deliver from (msg.EdgesOk u round act waits)) = if same_tx u tx
-    then record s { search = option_map (search_after events s.read tx from round act waits) s.search }
-    else s
-sought_after scenario events tx s r = s
+abbrev pub round_after : TxId → ℕ → Rec → ℕ
+round_after tx round (note.Sent to (msg.Edges u number of)) = if same_tx u tx then max round number else round
+round_after tx round r = round
 
-abbrev pub sought_over : Scenario → List TopoEvent → TxId → Sought → List Rec → Sought
-sought_over scenario events tx s [] = s
-sought_over scenario events tx s (r ∷ rs) = sought_over scenario events tx (sought_after scenario events tx s r) rs
+abbrev pub round_over : TxId → ℕ → List Rec → ℕ
+round_over tx round [] = round
+round_over tx round (r ∷ rs) = round_over tx (round_after tx round r) rs
 
--- the transaction's search behind these records
-abbrev pub search_by : Scenario → List TopoEvent → TxId → List Noted → Option Search
-search_by scenario events tx recs =
-    (sought_over scenario events tx (record { read = 0; search = None }) (recs_of tx.node recs)).search
+-- the last round of which a question was sent
+abbrev pub last_round : TxId → List Rec → ℕ
+last_round tx search = round_over tx 0 search
 
--- its last round awaits this node's answer
-abbrev pub search_awaits : NodeId → Option Search → Bool
-search_awaits id None = false
-search_awaits id (Some x) = has node_cmp x.awaited id
+abbrev pub edges_asked_by : TxId → ℕ → Rec → List NodeId
+edges_asked_by tx round (note.Sent to (msg.Edges u number of)) = if same_tx u tx && nat_eq number round then to ∷ [] else []
+edges_asked_by tx round r = []
 
--- the question of a round, for these transactions
-abbrev pub asks_for : TxId → Search → NodeId → Rec → Bool
-asks_for tx x id (note.Sent to (msg.Edges u round of)) =
-    same_node to id && same_tx u tx && nat_eq round x.round && pointwise same_tx of x.known
-asks_for tx x id r = false
+-- the nodes that were asked in a round
+abbrev pub asked_in : TxId → ℕ → List Rec → List NodeId
+asked_in tx round search = flat_map (edges_asked_by tx round) search
 
-abbrev pub was_asked : List Rec → TxId → Search → NodeId → Bool
-was_asked own tx x id = list_any (asks_for tx x id) own
+abbrev pub is_answer_of : TxId → ℕ → NodeId → Rec → Bool
+is_answer_of tx round id (note.Deliver from (msg.EdgesOk u number act waits)) =
+    same_node from id && same_tx u tx && nat_eq number round
+is_answer_of tx round id r = false
 
-abbrev pub answers_round : TxId → Search → NodeId → Rec → Bool
-answers_round tx x id (note.Deliver from (msg.EdgesOk u round act waits)) =
-    same_node from id && same_tx u tx && nat_eq round x.round
-answers_round tx x id r = false
+abbrev pub waits_of_record : TxId → Rec → List Wait
+waits_of_record tx (note.Deliver from (msg.EdgesOk u number act waits)) = if same_tx u tx then waits else []
+waits_of_record tx r = []
 
--- in its last round it asked these nodes for all transactions known, and they have answered
-abbrev pub round_answered : List Rec → TxId → Search → List NodeId → Bool
-round_answered own tx x nodes =
-    list_all (λ (id : NodeId). was_asked own tx x id && list_any (answers_round tx x id) own) nodes
+-- all waits that the answers brought
+abbrev pub waits_brought : TxId → List Rec → List Wait
+waits_brought tx search = flat_map (waits_of_record tx) search
 
--- the search found nothing: each member that was not seen to leave was asked in the last round and has answered, no answer named
--- a new transaction, and the edges have no circle through the transaction
-abbrev pub is_clear : List TopoEvent → List Rec → TxId → Option Search → Bool
-is_clear events own tx None = false
-is_clear events own tx (Some x) = nat_eq (length x.awaited) 0 && is_none (cycle_through tx x.edges)
-    && nat_eq (length (with_named x.known x.edges)) (length x.known)
-    && round_answered own tx x (still_live events (read_from 0 own) x.members)
+abbrev pub names_known : List TxId → Wait → Bool
+names_known known w = list_any (same_tx w.waiter) known && list_any (same_tx w.holder) known
+
+-- a question of this round asks for the transaction and all that these waits name
+abbrev pub asks_for_all : TxId → ℕ → List Wait → Rec → Bool
+asks_for_all tx round waits (note.Sent to (msg.Edges u number of)) = not (same_tx u tx && nat_eq number round)
+    || (list_any (same_tx tx) of && list_all (names_known of) waits)
+asks_for_all tx round waits r = true
+
+-- Whom the search asks.
+
+-- the members of the last version that the starter had seen when the search began
+abbrev pub members_at_expire : Scenario → List TopoEvent → TxId → List Rec → List NodeId
+members_at_expire scenario events tx own = map (λ (m : Member). m.node)
+    (last_topology (first_topology scenario) (seen_events events (until_expire tx own))).members
+
+-- those of them that are not among these events as left
+abbrev pub not_left : List TopoEvent → List NodeId → List NodeId
+not_left events nodes = filter (λ (id : NodeId). not (has_node (left_among events) id)) nodes
+
+-- The two ends.
+
+-- The search found nothing: in its last round each member that the starter did not see leave was asked, each node that was asked
+-- has answered, no answer named a transaction for which that round did not ask, and the waits have no circle through this one.
+abbrev pub is_clear : Scenario → List TopoEvent → List Rec → TxId → Bool
+is_clear scenario events own tx =
+    let search = from_expire tx own in let round = last_round tx search in let waits = waits_brought tx search in
+    list_all (has_node (asked_in tx round search)) (not_left (seen_events events own) (members_at_expire scenario events tx own))
+    && list_all (λ (id : NodeId). list_any (is_answer_of tx round id) search) (asked_in tx round search)
+    && list_all (asks_for_all tx round waits) search
+    && not (has_circle tx waits)
+
+abbrev pub is_any_answer_of : TxId → NodeId → Rec → Bool
+is_any_answer_of tx id (note.Deliver from (msg.EdgesOk u number act waits)) = same_node from id && same_tx u tx
+is_any_answer_of tx id r = false
+
+-- each node answers each round once
+abbrev pub answers_given : TxId → List Rec → NodeId → ℕ
+answers_given tx search id = length (filter (is_any_answer_of tx id) search)
+
+-- the starter had not seen it leave before the last event that it has seen
+abbrev pub still_asked : Scenario → List TopoEvent → List Rec → TxId → List NodeId
+still_asked scenario events own tx =
+    not_left (take (read_from 0 own - 1) events) (members_at_expire scenario events tx own)
+
+-- The search lacks the answer of this node, of which the last event tells: it is one of those that are still asked, and none of
+-- them has answered fewer rounds.
+abbrev pub lacks_answer : Scenario → List TopoEvent → List Rec → TxId → NodeId → Bool
+lacks_answer scenario events own tx id =
+    let search = from_expire tx own in let nodes = still_asked scenario events own tx in
+    has_node nodes id
+    && list_all (λ (other : NodeId). nat_le (answers_given tx search id) (answers_given tx search other)) nodes

@@ -1,19 +1,25 @@
 -- What a session is told agrees with the history: each access is answered by the value before it, and who is told committed is
 -- committed.
 use Rattle.std.specs.Cmp.Lexicographic.{pointwise}
+use Rattle.std.specs.List.{list_all}
 use Rattle.std.specs.Prelude.{Bool, Err, None, Ok, Option, Result, Some, false, if◌then◌else◌, nat_eq, not, true, ℕ, ◌&&◌, ◌||◌}
 use Rattle.act_rows.specs.Accesses.{answer_of_value}
 use Rattle.part_model.specs.Numbers.{sum_with_value}
+use Rattle.part_model.specs.Orders.{is_node}
 use Rattle.ignite_types.specs.declared.answer.Answer.{Answer}
 use Rattle.ignite_types.specs.declared.journal.Journal.{Journal}
+use Rattle.ignite_types.specs.declared.journal.Rec.{Rec}
 use Rattle.ignite_types.specs.declared.list.List.{List}
+use Rattle.ignite_types.specs.declared.names.NodeId.{NodeId}
 use Rattle.ignite_types.specs.declared.names.TxId.{TxId}
 use Rattle.ignite_types.specs.declared.scenario.Command.{Command}
 use Rattle.tx_model.specs.History.{Walk, is_access, is_bare, is_done, known_value}
 use Rattle.journal_statements.specs.Noted.{Noted, is_committed_before, noted}
-use Rattle.journal_statements.specs.Walks.{each_answer}
+use Rattle.journal_statements.specs.Walks.{Answered, each_answer, with_command}
 use Rattle.ignite_types.specs.declared.answer.Answer.TheVariants as answer
 use Rattle.ignite_types.specs.declared.scenario.Command.TheVariants as command
+use Rattle.ignite_types.specs.declared.message.Message.TheVariants as msg
+use Rattle.ignite_types.specs.declared.journal.Rec.TheVariants as note
 
 abbrev pub sum_answer : Result (List ℕ) Answer → Answer
 sum_answer (Ok value) = answer.Found value
@@ -65,10 +71,30 @@ closing_fits ever w None = true
 closing_fits ever w (Some true) = w.committed
 closing_fits ever w (Some false) = not ever
 
-abbrev pub told_of_call : List Noted → TxId → List Noted → Walk → Option Command → Answer → Bool
-told_of_call recs tx before w None a = true
-told_of_call recs tx before w (Some c) a = access_fits w c a && closing_fits (is_committed_before recs tx) w (closing w c a)
+-- `whole` are all records of the journal, since no commit decision may stand behind the answer either
+abbrev pub answer_told : List Noted → Answered → Command → Bool
+answer_told whole a c = access_fits a.walk c a.answer
+    && closing_fits (is_committed_before whole a.tx) a.walk (closing a.walk c a.answer)
 
 -- each answered access answers what the footprint's values say, and each closing answer what was decided
+abbrev pub calls_told : Journal → Bool
+calls_told j = let whole = noted j.scenario j.groups in
+    each_answer (λ (a : Answered). with_command true (answer_told whole a) a.walk.called) j
+
+-- Finds.
+
+abbrev pub found_for : Rec → Option TxId
+found_for (note.Deliver from (msg.LockOk tx key found)) = Some tx
+found_for (note.Deliver from (msg.GetOk tx key found)) = Some tx
+found_for r = None
+
+abbrev pub is_at_starter : Option NodeId → Option TxId → Bool
+is_at_starter who None = true
+is_at_starter who (Some tx) = is_node tx.node who
+
+-- what is found for a transaction is delivered to its starter
+abbrev pub finds_reach_starters : Journal → Bool
+finds_reach_starters j = list_all (λ (n : Noted). is_at_starter n.node (found_for n.rec)) (noted j.scenario j.groups)
+
 abbrev pub answers_told : Journal → Bool
-answers_told j = each_answer (told_of_call (noted j.scenario j.groups)) j
+answers_told j = calls_told j && finds_reach_starters j

@@ -114,6 +114,11 @@ abbrev pub from_expire : TxId → List Rec → List Rec
 from_expire tx [] = []
 from_expire tx (r ∷ rs) = if is_expire_of tx r then r ∷ rs else from_expire tx rs
 
+-- these records up to the transaction's expiry
+abbrev pub until_expire : TxId → List Rec → List Rec
+until_expire tx [] = []
+until_expire tx (r ∷ rs) = if is_expire_of tx r then [] else r ∷ until_expire tx rs
+
 -- an answer of the transaction's search brings the edge
 abbrev pub is_brought_edge : TxId → Edge → Rec → Bool
 is_brought_edge tx e (note.Deliver from (msg.EdgesOk u round act waits)) =

@@ -1,7 +1,7 @@
 -- Statements on the transactions of a journal: each record is looked at with the records before it, and with the walk of a
 -- transaction up to it.
 use Rattle.std.specs.List.{flat_map, list_all}
-use Rattle.std.specs.Prelude.{Bool, Option, [], not, suc, true, zero, ℕ, ◌&&◌, ◌++◌, ◌+◌, ◌==◌, ◌||◌, ◌∷◌}
+use Rattle.std.specs.Prelude.{Bool, None, Option, Some, [], if◌then◌else◌, suc, true, zero, ℕ, ◌&&◌, ◌++◌, ◌+◌, ◌==◌, ◌∷◌}
 use Rattle.ignite_types.specs.declared.answer.Answer.{Answer}
 use Rattle.ignite_types.specs.declared.journal.Group.{Group}
 use Rattle.ignite_types.specs.declared.journal.Journal.{Journal}
@@ -57,19 +57,43 @@ abbrev pub each_with_tx : (TxId → Look) → Journal → Bool
 each_with_tx look j = let recs = noted j.scenario j.groups in
     list_all (λ (tx : TxId). looks_from (look tx) tx [] fresh_walk recs) (txs_of_journal j)
 
--- what is asked of an answer, by the command that it answers, where there is one
-abbrev pub AnswerLook : Type 0
-AnswerLook = List Noted → Walk → Option Command → Answer → Bool
+-- The answers.
+
+-- An answer, with what was before it.
+pub record Answered : Type 0 where
+  -- the last transaction that the session has started
+  pub tx : TxId
+  -- the records before the answer, and the transaction's walk over them
+  pub before : List Noted
+  pub walk : Walk
+  pub answer : Answer
 
 -- the last transaction that the session has started is this one
 abbrev pub is_current : TxId → Walk → Bool
 is_current tx w = w.started == tx.number
 
-abbrev pub answer_look : TxId → AnswerLook → Look
-answer_look tx look before w (note.Answer session a) =
-    not (is_called tx session) || not (is_current tx w) || look before w w.called a
-answer_look tx look before w r = true
+abbrev pub answered_in : TxId → List Noted → Walk → Rec → List Answered
+answered_in tx before w (note.Answer session a) =
+    if is_called tx session && is_current tx w then record { tx = tx; before = before; walk = w; answer = a } ∷ [] else []
+answered_in tx before w r = []
 
--- each answer is looked at once, with the transaction that its session has started last
-abbrev pub each_answer : (TxId → AnswerLook) → Journal → Bool
-each_answer look j = each_with_tx (λ (tx : TxId). answer_look tx (look tx)) j
+abbrev pub answered_from : TxId → List Noted → Walk → List Noted → List Answered
+answered_from tx before w [] = []
+answered_from tx before w (n ∷ ns) =
+    answered_in tx before w n.rec ++ answered_from tx (before ++ n ∷ []) (walk_on tx w n) ns
+
+-- the answers to a session while this was the last transaction that it had started
+abbrev pub answers_while : List Noted → TxId → List Answered
+answers_while recs tx = answered_from tx [] fresh_walk recs
+
+-- all answers, by transaction
+abbrev pub answers_of_journal : Journal → List Answered
+answers_of_journal j = let recs = noted j.scenario j.groups in flat_map (answers_while recs) (txs_of_journal j)
+
+-- each answer is looked at with the command that it answers; an answer to nothing is `other`
+abbrev pub with_command : Bool → (Command → Bool) → Option Command → Bool
+with_command other look None = other
+with_command other look (Some c) = look c
+
+abbrev pub each_answer : (Answered → Bool) → Journal → Bool
+each_answer look j = list_all look (answers_of_journal j)

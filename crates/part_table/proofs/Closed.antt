@@ -8,7 +8,7 @@ use Rattle.part_table.specs.declared.rule.Slot.{Slot}
 use Rattle.part_table.specs.declared.rule.Slot.TheVariants.{Part, Place, Lists}
 use Rattle.part_table.specs.declared.rule.View.{View}
 use Rattle.part_table.specs.History.{Rules, replay}
-use Rattle.part_table.specs.Rule.{Kept, HasRoom, Recalls, count_up}
+use Rattle.part_table.specs.Rule.{HasRoom, Kept, Recalls, numbers_from}
 use Rattle.part_table.specs.Turns.{IsLater}
 use Rattle.part_table.proofs.Closing.{all_home, all_written}
 use Rattle.part_table.proofs.Joining.{recalled}
@@ -81,7 +81,7 @@ module _ {M S E : Type 0} (r : Rules S E) (limit passes : ℕ) (m : M) (words : 
   place_one : (a b : E) → ◌≡◌ {A = Slot S E} (Place a) (Place b) → a ≡ b
   place_one a b e = cc e
 
-  pub states_are : (xs : List S) → map (λ x. Part x) xs ≡ take r.parts row → xs ≡ map (replay r the_log) (count_up 0 r.parts)
+  pub states_are : (xs : List S) → map (λ x. Part x) xs ≡ take r.parts row → xs ≡ map (replay r the_log) (numbers_from 0 r.parts)
   states_are xs h = values_of (λ x. Part x) (replay r the_log) xs row 0 r.parts part_one h (let d = deep in omega (arith, d))
       (λ j lt. parts_there j lt ∙ ap (λ z. some (Part (replay r the_log z))) (let q : j ≡ 0 + j = omega arith in q))
 

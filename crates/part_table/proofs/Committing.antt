@@ -10,8 +10,8 @@ use Rattle.part_table.specs.declared.rule.Entry.{Entry}
 use Rattle.part_table.specs.declared.rule.Slot.{Slot}
 use Rattle.part_table.specs.declared.rule.Slot.TheVariants.{Part, Empty}
 use Rattle.part_table.specs.declared.rule.View.{View}
-use Rattle.part_table.specs.History.{Rules, replay, IsLegal, MayCome, own, pairs, held_at, or_else}
-use Rattle.part_table.specs.Rule.{Kept, Knows, IsAt, is_in, committed, full, Commits, Overshoots, Lands}
+use Rattle.part_table.specs.History.{IsLegal, MayCome, Rules, held_at, held_pairs, own, replay, replay_or}
+use Rattle.part_table.specs.Rule.{Commits, IsAt, Kept, Knows, Lands, Overshoots, committed, full, is_in}
 use Rattle.part_table.specs.Turns.{Ready}
 use Rattle.part_table.proofs.Histories.{replay_snoc, legal_snoc, own_else, prefix_more, prefix_self, held_other, values_are}
 use Rattle.part_table.proofs.Looking.{reviewed, lt_or, le-ltb}
@@ -57,7 +57,7 @@ module _ {M S E : Type 0} (r : Rules S E) (limit passes : ℕ) (m : M) where
     abbrev log' : List (Entry S E)
     log' = k.log ++ entry ∷ []
 
-    old_values : (p : ℕ) (x : S) → held_at p (pairs ids olds) ≡ Some x → (k.owner p ≡ id) × (p < r.parts) × (slice_index s.words (p + 1) ≡ 1) × (x ≡ replay r k.log p)
+    old_values : (p : ℕ) (x : S) → held_at p (held_pairs ids olds) ≡ Some x → (k.owner p ≡ id) × (p < r.parts) × (slice_index s.words (p + 1) ≡ 1) × (x ≡ replay r k.log p)
     old_values p x h = kv.held p x (ap (held_at p) rd.held ∙ h)
 
     may : MayCome r (replay r k.log) entry
@@ -69,17 +69,17 @@ module _ {M S E : Type 0} (r : Rules S E) (limit passes : ℕ) (m : M) where
     legal' : IsLegal r log'
     legal' = legal_snoc r r.opening k.log entry k.legal may
 
-    value : (p : ℕ) → replay r log' p ≡ or_else (held_at p (pairs ids news)) (replay r k.log p)
-    value p = ap (λ f. f p) (replay_snoc r r.opening k.log entry) ∙ ap (λ is. or_else (held_at p (pairs is news)) (replay r k.log p)) (sym rd.touched)
+    value : (p : ℕ) → replay r log' p ≡ replay_or (held_at p (held_pairs ids news)) (replay r k.log p)
+    value p = ap (λ f. f p) (replay_snoc r r.opening k.log entry) ∙ ap (λ is. replay_or (held_at p (held_pairs is news)) (replay r k.log p)) (sym rd.touched)
 
-    value_in : (p : ℕ) (x : S) → held_at p (pairs ids news) ≡ Some x → x ≡ replay r log' p
-    value_in p x h = sym (value p ∙ ap (λ o. or_else o (replay r k.log p)) h)
+    value_in : (p : ℕ) (x : S) → held_at p (held_pairs ids news) ≡ Some x → x ≡ replay r log' p
+    value_in p x h = sym (value p ∙ ap (λ o. replay_or o (replay r k.log p)) h)
 
-    value_out : (p : ℕ) → ((x : S) → held_at p (pairs ids olds) ≡ Some x → ⊥) → replay r log' p ≡ replay r k.log p
-    value_out p not = value p ∙ ap (λ o. or_else o (replay r k.log p)) (none_if (held_at p (pairs ids news)) (λ x h. let o = held_other p ids news olds x rd.old_count h in not o.0 o.1))
+    value_out : (p : ℕ) → ((x : S) → held_at p (held_pairs ids olds) ≡ Some x → ⊥) → replay r log' p ≡ replay r k.log p
+    value_out p not = value p ∙ ap (λ o. replay_or o (replay r k.log p)) (none_if (held_at p (held_pairs ids news)) (λ x h. let o = held_other p ids news olds x rd.old_count h in not o.0 o.1))
 
     abbrev w : View M S E
-    w = committed me.0 log' (pairs ids news) n
+    w = committed me.0 log' (held_pairs ids news) n
 
     module _ (room : n < limit) where
       long : length k.log ≡ n
@@ -130,7 +130,7 @@ module _ {M S E : Type 0} (r : Rules S E) (limit passes : ℕ) (m : M) where
       held_still : (p : ℕ) (y : S) → held_at p me.0.held ≡ Some y → (z : S) × (held_at p w.held ≡ Some z)
       held_still p y h = held_other p ids olds news y rd.new_count (ap (held_at p) (sym rd.held) ∙ h)
 
-      not_own : (p : ℕ) → slice_index s.words (p + 1) ≡ 0 → (x : S) → held_at p (pairs ids olds) ≡ Some x → ⊥
+      not_own : (p : ℕ) → slice_index s.words (p + 1) ≡ 0 → (x : S) → held_at p (held_pairs ids olds) ≡ Some x → ⊥
       not_own p free x h = let o = (old_values p x h).2 in omega (arith, o, free)
 
       -- a seat at a place is not this one
@@ -218,12 +218,12 @@ module _ {M S E : Type 0} (r : Rules S E) (limit passes : ℕ) (m : M) where
             entry,
             log',
             kv.seen.0,
-            pairs ids news,
+            held_pairs ids news,
             (λ i. (w, (sym (kv.machine m known).1 i + n, Empty) ∷ me.1)),
             ap (λ l. l ++ entry ∷ []) (sym kv.seen.1),
             rd.said,
             sym rd.numbers,
-            ap (λ is. pairs is news) rd.touched,
+            ap (λ is. held_pairs is news) rd.touched,
             legal',
             own_rest number me.0.seen kv.seen.0 (ap (own number) kv.seen.1 ∙ (kv.mine number (number_in number me.0.numbers rd.numbers)).2),
             (let l = length-append k.log (entry ∷ []) in let o = long room in omega (arith, l, o)),

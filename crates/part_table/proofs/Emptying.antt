@@ -35,7 +35,7 @@ left_last fs gs i n n' count lt same is h k last = ap (λ l. get_or l k false) i
 
 -- a row that begins with f's values gives them
 pub values_of : {A B : Type 0} (c : A → B) (f : ℕ → A) (xs : List A) (row : List B) (k n : ℕ) → ((a b : A) → c a ≡ c b → a ≡ b) → map c xs ≡ take n row → n ≤ length row
-    → ((j : ℕ) → j < n → get_elem? row j ≡ some (c (f (k + j)))) → xs ≡ map f (Rattle.part_table.specs.Rule.count_up k n)
+    → ((j : ℕ) → j < n → get_elem? row j ≡ some (c (f (k + j)))) → xs ≡ map f (Rattle.part_table.specs.Rule.numbers_from k n)
 values_of c f [] row k zero one h le at = refl
 values_of c f (x ∷ xs) row k zero one h le at = absurd (cc h)
 values_of c f xs [] k (suc n) one h le at = absurd (omega (arith, le))

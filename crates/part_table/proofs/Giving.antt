@@ -10,8 +10,8 @@ use Rattle.part_table.specs.declared.rule.Entry.{Entry}
 use Rattle.part_table.specs.declared.rule.Slot.{Slot}
 use Rattle.part_table.specs.declared.rule.Slot.TheVariants.{Part, Place}
 use Rattle.part_table.specs.declared.rule.View.{View}
-use Rattle.part_table.specs.History.{Rules, replay, held_at}
-use Rattle.part_table.specs.Rule.{Kept, Knows, InPlace, without_first, rest_of, Gives, placed, Places}
+use Rattle.part_table.specs.History.{Rules, held_at, replay}
+use Rattle.part_table.specs.Rule.{Gives, InPlace, Kept, Knows, Places, placed, rest_of, without_first_held}
 use Rattle.part_table.proofs.Taking.{total_set, same_word, place_of, holds_set, is_at_set, reserved_else}
 
 module _ {M S E : Type 0} (r : Rules S E) (limit passes : ℕ) (m : M) where
@@ -34,8 +34,8 @@ module _ {M S E : Type 0} (r : Rules S E) (limit passes : ℕ) (m : M) where
     not_it : (q : ℕ) (y : S) → held_at q hs ≡ Some y → q ≢ p
     not_it q y h e = absurd (cc (sym once ∙ (ap (λ z. held_at z hs) (sym e) ∙ h)))
 
-    pub given : Kept r limit passes m record { words = set s.words (p + 1) 0; homes = set s.homes p (some (Part x)); views = set s.views id (without_first v hs) }
-    given = let w : View M S E = without_first v hs in record {
+    pub given : Kept r limit passes m record { words = set s.words (p + 1) 0; homes = set s.homes p (some (Part x)); views = set s.views id (without_first_held v hs) }
+    given = let w : View M S E = without_first_held v hs in record {
       log = k.log;
       owner = k.owner;
       writer = k.writer;
@@ -89,11 +89,11 @@ module _ {M S E : Type 0} (r : Rules S E) (limit passes : ℕ) (m : M) where
   pub gives_part : (slots id p : ℕ) (me : Me (Slot S E) (View M S E)) (x : S) (hs : List (ℕ × S)) (cs : List (ℕ × Slot S E)) → me.0.held ≡ (p, x) ∷ hs → held_at p hs ≡ None → me.1 ≡ (p, Part x) ∷ cs
       → Allows (Kept r limit passes m) slots id me (p + 1) (λ _. 0) (λ _. Gives (step slots (p + 1) 0 0 none) me 0)
   gives_part slots id p me x hs cs held once out s k deep at fits = (
-    without_first me.0 hs,
+    without_first_held me.0 hs,
     gives,
     tt,
-    subst (λ hm. Kept r limit passes m record { words = set s.words (p + 1) 0; homes = hm; views = set s.views id (without_first me.0 hs) }) (sym (ap (put_back s.homes) out)) (given s k id p me.0 x hs at held once),
-    λ i. (without_first me.0 (rest_of (sym held i)), (ap rest out ∙ sym (ap rest_of out)) i),
+    subst (λ hm. Kept r limit passes m record { words = set s.words (p + 1) 0; homes = hm; views = set s.views id (without_first_held me.0 hs) }) (sym (ap (put_back s.homes) out)) (given s k id p me.0 x hs at held once),
+    λ i. (without_first_held me.0 (rest_of (sym held i)), (ap rest out ∙ sym (ap rest_of out)) i),
   )
 
   module _ (s : State (Slot S E) (View M S E)) (k : Kept r limit passes m s) (id j : ℕ) (v : View M S E) (e : E) (xs : List S) (at : get_elem? s.views id ≡ some v) (place : v.place ≡ Some j) (said : v.said ≡ Some (e, xs)) where

@@ -9,8 +9,8 @@ use Rattle.atomic_table.specs.Table.{Joins}
 use Rattle.atomic_table.proofs.Lists.{at_set, at_longer, set_else}
 use Rattle.part_table.specs.declared.rule.Entry.{Entry}
 use Rattle.part_table.specs.declared.rule.View.{View}
-use Rattle.part_table.specs.History.{Rules, own, held_at}
-use Rattle.part_table.specs.Rule.{Kept, Knows, is_in, longer, tells, recall, both, spent, Recalls}
+use Rattle.part_table.specs.History.{Rules, held_at, own}
+use Rattle.part_table.specs.Rule.{Kept, Knows, Recalls, both, is_in, longer, recall, spent, tells}
 use Rattle.part_table.proofs.Taking.{total_set, holds_set, is_at_set}
 use Rattle.part_table.proofs.Histories.{prefix_self}
 use Rattle.part_table.proofs.Committing.{own_append}

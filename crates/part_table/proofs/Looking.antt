@@ -13,7 +13,7 @@ use Rattle.part_table.specs.declared.rule.Slot.{Slot}
 use Rattle.part_table.specs.declared.rule.Slot.TheVariants.{Ask}
 use Rattle.part_table.specs.declared.rule.View.{View}
 use Rattle.part_table.specs.History.{Rules, held_at}
-use Rattle.part_table.specs.Rule.{Kept, Knows, total, saw, looked, Looks, Sees}
+use Rattle.part_table.specs.Rule.{Kept, Knows, Looks, Sees, looked, saw, sum_of_views}
 use Rattle.part_table.proofs.Histories.{prefix_self}
 use Rattle.part_table.proofs.Taking.{same_word, total_set, holds_set, is_at_set}
 
@@ -54,7 +54,7 @@ module _ {M S E : Type 0} (r : Rules S E) (limit passes : ℕ) (m : M) where
         counted = k.counted ∙ (sym same_length ∙ ap (λ z. min z limit) (sym word0));
         numbers = (let t = total_set (λ (u : View M S E). length u.numbers) s.views id v w at in let o = k.numbers in let l = ap (λ (l : List ℕ). length l) numbers in omega (arith, t, o, l));
         room = (let t = total_set (λ (u : View M S E). u.room) s.views id v w at in let o = k.room in let a : ℕ = n - limit in let b : ℕ = slice_index s.words 0 - limit in
-            let e : a + w.room ≡ b + v.room = same_room in let g : a + total (λ (u : View M S E). u.room) (set s.views id w) ≡ passes = omega (arith, t, o, e) in ap (λ z. (z - limit) + total (λ (u : View M S E). u.room) (set s.views id w)) word0 ∙ g);
+            let e : a + w.room ≡ b + v.room = same_room in let g : a + sum_of_views (λ (u : View M S E). u.room) (set s.views id w) ≡ passes = omega (arith, t, o, e) in ap (λ z. (z - limit) + sum_of_views (λ (u : View M S E). u.room) (set s.views id w)) word0 ∙ g);
         parts = (λ p lt. ⊎_elim (λ home. inl (word p ∙ home.0, home.1)) (λ out. inr (word p ∙ out.0, holds_set r limit passes m s.views id (k.owner p) p v w at (λ y h. (y, ap (held_at p) held ∙ h)) out.1)) (k.parts p lt));
         places = (λ j lt. ⊎_elim (λ b. inl b) (λ f. inr (⊎_elim (λ g. inl g) (λ a. inr (is_at_set r limit passes m s.views id (k.writer j) j v w at place a)) f)) (k.places j lt));
         views = (λ j u g. ⊎_elim

@@ -9,26 +9,26 @@ use Rattle.part_table.specs.declared.rule.Slot.{Slot}
 use Rattle.part_table.specs.declared.rule.Slot.TheVariants.{Part, Lists, Empty}
 use Rattle.part_table.specs.declared.rule.View.{View}
 use Rattle.part_table.specs.History.{Rules}
-use Rattle.part_table.specs.Rule.{Kept, Knows, HasRoom, is_in, count_up, first_view}
+use Rattle.part_table.specs.Rule.{HasRoom, Kept, Knows, first_view, is_in, numbers_from}
 use Rattle.part_table.proofs.Splitting.{at_end}
 
 pub map_length : {A B : Type 0} (f : A → B) (xs : List A) → length (map f xs) ≡ length xs
 map_length f [] = refl
 map_length f (x ∷ xs) = ap suc (map_length f xs)
 
-pub count_length : (k n : ℕ) → length (count_up k n) ≡ n
+pub count_length : (k n : ℕ) → length (numbers_from k n) ≡ n
 count_length k zero = refl
 count_length k (suc n) = let h = count_length (k + 1) n in omega (arith, h)
 
-pub counted_below : (q k n : ℕ) → is_in q (count_up k n) ≡ true → q < k + n
+pub counted_below : (q k n : ℕ) → is_in q (numbers_from k n) ≡ true → q < k + n
 counted_below q k zero h = absurd (cc h)
 counted_below q k (suc n) h = ⊎_elim
     (λ (e : k ≡ q). omega (arith, e))
-    (λ ne. let t : q < k + 1 + n = counted_below q (k + 1) n (sym (ap (λ b. b || is_in q (count_up (k + 1) n)) (ne_eqb k q ne)) ∙ h) in omega (arith, t))
+    (λ ne. let t : q < k + 1 + n = counted_below q (k + 1) n (sym (ap (λ b. b || is_in q (numbers_from (k + 1) n)) (ne_eqb k q ne)) ∙ h) in omega (arith, t))
     (cases_eq k q)
 
-pub no_numbers : (n : ℕ) → n ≡ 0 → count_up 0 n ≡ []
-no_numbers n e = ap (count_up 0) e
+pub no_numbers : (n : ℕ) → n ≡ 0 → numbers_from 0 n ≡ []
+no_numbers n e = ap (numbers_from 0) e
 
 module _ {M S E : Type 0} (r : Rules S E) (limit passes : ℕ) (m : M) where
   pub opens : (ws : List ℕ) (slots : List (Slot S E)) → length ws ≡ r.parts + 1 → ((i : ℕ) → i < length ws → slice_index ws i ≡ 0) → length slots ≡ r.parts + limit + 1

@@ -6,11 +6,11 @@ use lib.ListN.{get_elem?}
 use Rattle.atomic_table.specs.Table.{Splits}
 use Rattle.atomic_table.proofs.Lists.{at_set, at_longer}
 use Rattle.part_table.specs.declared.rule.View.{View}
-use Rattle.part_table.specs.History.{Rules, own, held_at}
-use Rattle.part_table.specs.Rule.{Kept, Knows, is_in, total}
+use Rattle.part_table.specs.History.{Rules, held_at, own}
+use Rattle.part_table.specs.Rule.{Kept, Knows, is_in, sum_of_views}
 use Rattle.part_table.proofs.Taking.{total_set, place_of, but, but_same, but_else, holds_set, is_at_set}
 
-pub total_snoc : {A : Type 0} (f : A → ℕ) (xs : List A) (y : A) → total f (xs ++ y ∷ []) ≡ total f xs + f y
+pub total_snoc : {A : Type 0} (f : A → ℕ) (xs : List A) (y : A) → sum_of_views f (xs ++ y ∷ []) ≡ sum_of_views f xs + f y
 total_snoc f [] y = omega arith
 total_snoc f (x ∷ xs) y = let h = total_snoc f xs y in omega (arith, h)
 

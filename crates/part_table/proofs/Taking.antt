@@ -11,10 +11,10 @@ use Rattle.part_table.specs.declared.rule.Entry.{Entry}
 use Rattle.part_table.specs.declared.rule.Slot.{Slot}
 use Rattle.part_table.specs.declared.rule.Slot.TheVariants.{Part}
 use Rattle.part_table.specs.declared.rule.View.{View}
-use Rattle.part_table.specs.History.{Rules, replay, held_at}
-use Rattle.part_table.specs.Rule.{Kept, Knows, InPlace, Holds, IsAt, Reserved, total, holding, Takes}
+use Rattle.part_table.specs.History.{Rules, held_at, replay}
+use Rattle.part_table.specs.Rule.{Holds, InPlace, IsAt, Kept, Knows, Reserved, Takes, holding, sum_of_views}
 
-pub total_set : {A : Type 0} (f : A → ℕ) (xs : List A) (i : ℕ) (x y : A) → get_elem? xs i ≡ some x → total f (set xs i y) + f x ≡ total f xs + f y
+pub total_set : {A : Type 0} (f : A → ℕ) (xs : List A) (i : ℕ) (x y : A) → get_elem? xs i ≡ some x → sum_of_views f (set xs i y) + f x ≡ sum_of_views f xs + f y
 total_set f [] i x y e = absurd (some-ne-none x (sym e))
 total_set f (z ∷ zs) zero x y e = let h = ap f (some-injective z x e) in omega (arith, h)
 total_set f (z ∷ zs) (suc i) x y e = let h = total_set f zs i x y e in omega (arith, h)

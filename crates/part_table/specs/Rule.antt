@@ -12,26 +12,26 @@ use Rattle.part_table.specs.declared.rule.Entry.{Entry}
 use Rattle.part_table.specs.declared.rule.Slot.{Slot}
 use Rattle.part_table.specs.declared.rule.Slot.TheVariants.{Part, Place, Ask, Lists, Empty}
 use Rattle.part_table.specs.declared.rule.View.{View}
-use Rattle.part_table.specs.History.{Rules, replay, IsLegal, own, pairs, held_at}
+use Rattle.part_table.specs.History.{IsLegal, Rules, held_at, held_pairs, own, replay}
 
 -- the n numbers from k on
-abbrev pub count_up : ℕ → ℕ → List ℕ
-count_up k zero = []
-count_up k (suc n) = k ∷ count_up (k + 1) n
+abbrev pub numbers_from : ℕ → ℕ → List ℕ
+numbers_from k zero = []
+numbers_from k (suc n) = k ∷ numbers_from (k + 1) n
 
 abbrev pub first_view : {M S E : Type 0} → M → ℕ → ℕ → ℕ → View M S E
 first_view m parts limit n =
-    record { machine = Some m; parts = parts; limit = limit; numbers = count_up 0 n; room = n; seen = []; told = []; held = []; place = None; said = None; ready = false }
+    record { machine = Some m; parts = parts; limit = limit; numbers = numbers_from 0 n; room = n; seen = []; told = []; held = []; place = None; said = None; ready = false }
 
 -- the view of the first seat, once the passes below i have seats of their own
 abbrev pub dealt : {M S E : Type 0} → M → ℕ → ℕ → ℕ → ℕ → View M S E
 dealt m parts limit n i =
-    record { machine = Some m; parts = parts; limit = limit; numbers = count_up i (n - i); room = n - i; seen = []; told = []; held = []; place = None; said = None; ready = false }
+    record { machine = Some m; parts = parts; limit = limit; numbers = numbers_from i (n - i); room = n - i; seen = []; told = []; held = []; place = None; said = None; ready = false }
 
 -- the sum of f over all views
-abbrev pub total : {A : Type 0} → (A → ℕ) → List A → ℕ
-total f [] = 0
-total f (v ∷ vs) = f v + total f vs
+abbrev pub sum_of_views : {A : Type 0} → (A → ℕ) → List A → ℕ
+sum_of_views f [] = 0
+sum_of_views f (v ∷ vs) = f v + sum_of_views f vs
 
 abbrev pub is_in : ℕ → List ℕ → Bool
 is_in m [] = false
@@ -94,8 +94,8 @@ pub record Kept {M S E : Type 0} (r : Rules S E) (limit passes : ℕ) (m : M) (s
   pub deep : length s.homes ≡ r.parts + limit + 1
   pub reserved : Reserved r.parts limit s.homes
   pub counted : length log ≡ min (slice_index s.words 0) limit
-  pub numbers : total (λ (v : View M S E). length v.numbers) s.views ≡ passes
-  pub room : (slice_index s.words 0 - limit) + total (λ (v : View M S E). v.room) s.views ≡ passes
+  pub numbers : sum_of_views (λ (v : View M S E). length v.numbers) s.views ≡ passes
+  pub room : (slice_index s.words 0 - limit) + sum_of_views (λ (v : View M S E). v.room) s.views ≡ passes
   pub parts : (p : ℕ) → p < r.parts → InPlace r limit passes m log s.words s.homes s.views owner p
   pub places : (j : ℕ) → j < limit → Written r limit passes m log s.homes s.views writer j
   pub views : (id : ℕ) (v : View M S E) → get_elem? s.views id ≡ some v → Knows r limit passes m log s.words owner writer session_state id v
@@ -104,16 +104,16 @@ pub record Kept {M S E : Type 0} (r : Rules S E) (limit passes : ℕ) (m : M) (s
 abbrev pub holding : {M S E : Type 0} → View M S E → ℕ → S → View M S E
 holding v p x = record v { held = v.held ++ (p, x) ∷ [] }
 
-abbrev pub without_first : {M S E : Type 0} → View M S E → List (ℕ × S) → View M S E
-without_first v hs = record v { held = hs }
+abbrev pub without_first_held : {M S E : Type 0} → View M S E → List (ℕ × S) → View M S E
+without_first_held v hs = record v { held = hs }
 
 abbrev pub rest_of : {A : Type 0} → List A → List A
 rest_of [] = []
 rest_of (x ∷ xs) = xs
 
-abbrev pub first_number : List ℕ → List ℕ
-first_number [] = []
-first_number (k ∷ ks) = k ∷ []
+abbrev pub first_number_of : List ℕ → List ℕ
+first_number_of [] = []
+first_number_of (k ∷ ks) = k ∷ []
 
 -- what the steps tell
 module _ {M S E : Type 0} where
@@ -123,7 +123,7 @@ module _ {M S E : Type 0} where
 
   -- the part held first goes home
   abbrev pub Gives : Step (Slot S E) → Me (Slot S E) (View M S E) → ℕ → Me (Slot S E) (View M S E) → Type 0
-  Gives s m found n = n ≡ (without_first m.0 (rest_of m.0.held), rest_of m.1)
+  Gives s m found n = n ≡ (without_first_held m.0 (rest_of m.0.held), rest_of m.1)
 
   abbrev pub full : View M S E → List (Entry S E) → View M S E
   full v w = record v { seen = w; room = v.room - 1; ready = false }
@@ -139,7 +139,7 @@ module _ {M S E : Type 0} where
   abbrev pub Lands : Rules S E → Me (Slot S E) (View M S E) → ℕ → Me (Slot S E) (View M S E) → Type 0
   Lands r m found n = (e : Entry S E) × (w : List (Entry S E)) × (between : List (Entry S E)) × (hs : List (ℕ × S))
       × (n ≡ (committed m.0 w hs found, (m.0.parts + found, Empty) ∷ m.1))
-      × (w ≡ (m.0.seen ++ between) ++ e ∷ []) × (m.0.said ≡ Some (e.event, e.news)) × (e.by ∷ [] ≡ m.0.numbers) × (hs ≡ pairs (r.touches e.event) e.news)
+      × (w ≡ (m.0.seen ++ between) ++ e ∷ []) × (m.0.said ≡ Some (e.event, e.news)) × (e.by ∷ [] ≡ m.0.numbers) × (hs ≡ held_pairs (r.touches e.event) e.news)
       × IsLegal r w × (own e.by between ≡ []) × (length w ≡ found + 1)
 
   -- the journal was full
@@ -196,7 +196,7 @@ module _ {M S E : Type 0} where
 
   -- the first of the numbers, and the others
   abbrev pub head_view : View M S E → View M S E
-  head_view v = record v { numbers = first_number v.numbers; room = 1 }
+  head_view v = record v { numbers = first_number_of v.numbers; room = 1 }
 
   abbrev pub tail_view : View M S E → View M S E
   tail_view v = record v { numbers = rest_of v.numbers; room = v.room - 1 }

@@ -7,12 +7,12 @@ use Rattle.part_table.specs.declared.table.Parts.{Parts}
 use Rattle.part_table.specs.declared.rule.Plan.{Plan}
 use Rattle.part_table.specs.declared.rule.Slot.{Slot}
 use Rattle.part_table.specs.declared.rule.View.{View}
-use Rattle.part_table.specs.History.{Rules, rules, is_ascending, replay, own, IsLegal}
-use Rattle.part_table.specs.Rule.{count_up}
+use Rattle.part_table.specs.History.{IsLegal, Rules, is_ascending, own, replay, rules}
+use Rattle.part_table.specs.Rule.{numbers_from}
 use Rattle.part_table.specs.Turns.{IsHolding, IsLater}
 
-abbrev pub plan : {M : Type 0} → M → ℕ → ℕ → ℕ → Plan M
-plan m parts limit passes = record { machine = m; parts = parts; limit = limit; passes = passes }
+abbrev pub plan_of_table : {M : Type 0} → M → ℕ → ℕ → ℕ → Plan M
+plan_of_table m parts limit passes = record { machine = m; parts = parts; limit = limit; passes = passes }
 
 abbrev pub machine_of : {M S E : Type 0} → Parts M S E → M
 machine_of t = t.table.shared.key.machine
@@ -59,12 +59,12 @@ pub record IsTurn {M S E : Type 0} (number : ℕ) (ids : List ℕ) (states : Lis
 
 -- each number below n stands once among those of the passes
 abbrev pub EachOnce : {M S E : Type 0} → ℕ → List (PassView M S E) → Type 0
-EachOnce n passes = IsPermutation (map (λ p. p.number) passes) (count_up 0 n)
+EachOnce n passes = IsPermutation (map (λ p. p.number) passes) (numbers_from 0 n)
 
 -- what a table ends with: one history, which every pass has seen a beginning of and in which its own entries are those that it saw
 pub record Ends {M S E : Type 0} (r : Rules S E) (count passes : ℕ) (given : List (PassView M S E)) (log : List (Entry S E)) (states : List S) (events : List E) : Type 0 where
   pub legal : IsLegal r log
   pub journal : events ≡ map (λ e. e.event) log
-  pub values : states ≡ map (replay r log) (count_up 0 count)
+  pub values : states ≡ map (replay r log) (numbers_from 0 count)
   pub known : All (λ p. IsLater p.number p.seen log) given
   pub strangers : (k : ℕ) → passes ≤ k → own k log ≡ []

@@ -1,8 +1,8 @@
 //! The calls of the table.
 ghost use Rattle.std.specs.Prelude.{◌≡◌, ◌<◌, ◌≤◌, [], map, length, All, IfOk, IfErr};
-ghost use Rattle.part_table.specs.History.{ascends, replay, IsLegal};
-ghost use Rattle.part_table.specs.Rule.{count_up};
-ghost use Rattle.part_table.specs.Surface.{EachOnce, Ends, IsPassOf, machine_of, passes_of, plan, rules_of};
+ghost use Rattle.part_table.specs.History.{IsLegal, ascends, replay};
+ghost use Rattle.part_table.specs.Rule.{numbers_from};
+ghost use Rattle.part_table.specs.Surface.{EachOnce, Ends, IsPassOf, machine_of, passes_of, plan_of_table, rules_of};
 ghost use Rattle.part_table.specs.Turns.{IsLater, Joined};
 ghost use Rattle.part_table.specs.declared.holders.TakeFault.TheVariants as fault;
 
@@ -25,11 +25,11 @@ impl<M: Machine> Parts<M> {
         limit: u64,
         passes: u32,
     ) -> Mem<(Parts<M>, Vec<Pass<M>>)>
-        requires opening { opening.items ≡ map (M.opening machine) (count_up 0 (M.count machine)) }
+        requires opening { opening.items ≡ map (M.opening machine) (numbers_from 0 (M.count machine)) }
         requires passes { 0 < passes }
         ensures table { IfOk result (λ t. (t.0.count ≡ M.count machine) × (t.0.limit ≡ limit)
-            × (t.0.table.shared.key ≡ plan machine (M.count machine) limit passes)) }
-        ensures numbers { IfOk result (λ t. map (λ p. p.number) t.1.items ≡ count_up 0 passes) }
+            × (t.0.table.shared.key ≡ plan_of_table machine (M.count machine) limit passes)) }
+        ensures numbers { IfOk result (λ t. map (λ p. p.number) t.1.items ≡ numbers_from 0 passes) }
         ensures own { IfOk result (λ t. All (λ p. IsPassOf t.0 p × (p.seen ≡ [])) t.1.items) }
     {
         let count = opening.len();

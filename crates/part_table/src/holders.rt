@@ -34,7 +34,7 @@ pub struct Turn<M: Machine> {
 }
 
 impl<M: Machine> Model for Turn<M> {
-    ghost use Rattle.part_table.specs.Surface.{TurnView, IsTurn, pass_view};
+    ghost use Rattle.part_table.specs.Surface.{IsTurn, TurnView, pass_view};
 
     ghost Value = { TurnView M M.State M.Event };
 

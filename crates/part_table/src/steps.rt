@@ -3,8 +3,8 @@ ghost use Rattle.std.specs.Prelude.{◌≡◌, ◌≢◌, ℕ, ◌+◌, ◌<◌,
 ghost use mathlib.Core.Option.{none};
 ghost use mathlib.Core.List.{IsPrefix};
 ghost use Rattle.atomic_table.specs.Table.{step};
-ghost use Rattle.part_table.specs.History.{held_at, ascends, pairs};
-ghost use Rattle.part_table.specs.Rule.{Commits, Quiet, Recalls, count_up, first_view, holding, looked, placed, rest_of, saw, without_first};
+ghost use Rattle.part_table.specs.History.{ascends, held_at, held_pairs};
+ghost use Rattle.part_table.specs.Rule.{Commits, Quiet, Recalls, first_view, holding, looked, numbers_from, placed, rest_of, saw, without_first_held};
 ghost use Rattle.part_table.specs.Surface.{IsPassOf, machine_of, rules_of};
 ghost use Rattle.part_table.specs.Turns.{IsOf, IsSameSeat, Ready, emptied};
 ghost use Rattle.part_table.specs.declared.rule.Slot.TheVariants.{Empty, Part};
@@ -57,7 +57,7 @@ impl<M: Machine> Parts<M> {
         requires held { (x : _) × (hs : _) × (cs : _) × (seat.old.me.0.held ≡ (part, x) ∷ hs) × (held_at part hs ≡ None)
             × (seat.old.me.1 ≡ (part, Part x) ∷ cs) }
         ensures own { IsSameSeat seat.old seat.new }
-        ensures gave { seat.new.me ≡ (without_first seat.old.me.0 (rest_of seat.old.me.0.held), rest_of seat.old.me.1) }
+        ensures gave { seat.new.me ≡ (without_first_held seat.old.me.0 (rest_of seat.old.me.0.held), rest_of seat.old.me.1) }
     {
         let word = part as usize + 1;
         self.table.shared.store::<Give>(seat, word, 0);
@@ -144,9 +144,9 @@ impl<M: Machine> Parts<M> {
         requires own { seat.old.table_id ≡ self.now.table.shared.table_id }
         requires ids { ascends 0 ids.now × All (λ i. i + 1 < self.now.table.shared.table_id.words) ids.now
             × (length ids.now ≡ length values.items) }
-        requires held { (seat.old.me.0.held ≡ pairs ids.now values.items) × (seat.old.me.1 ≡ emptied ids.now) }
+        requires held { (seat.old.me.0.held ≡ held_pairs ids.now values.items) × (seat.old.me.1 ≡ emptied ids.now) }
         ensures own { IsSameSeat seat.old seat.new }
-        ensures done { seat.new.me ≡ (without_first seat.old.me.0 [], []) }
+        ensures done { seat.new.me ≡ (without_first_held seat.old.me.0 [], []) }
     {
         let mut i = 0;
         for value in values {
@@ -173,7 +173,7 @@ impl<M: Machine> Parts<M> {
             × (seat.me
             ≡ (first_view (machine_of self.now) self.now.table.shared.key.parts self.now.table.shared.key.limit passes, [])) }
         requires room { (list.items ≡ []) × (passes ≤ list.cap) }
-        ensures numbers { map (λ p. p.number) result.items ≡ count_up 0 passes }
+        ensures numbers { map (λ p. p.number) result.items ≡ numbers_from 0 passes }
         ensures own { All (λ p. IsPassOf self.now p × (p.seen ≡ [])) result.items }
     {
         for number in 0..passes - 1 {

@@ -24,7 +24,7 @@ use Rattle.link_laws.proofs.Journals.{first_rest}
 use Rattle.node_state.specs.Node.{NodeState}
 use Rattle.topology_laws.specs.TopologyFacts.{OldestHasMap, HoldsOfEach, IsMemberOf, MemberFits, NodeFits, is_leave_of, never_leaves, HasAtLeast, IsBehind, IsNoHigherMap, IsUpTo, MapFits, SingleTells, IsBelow}
 use Rattle.topology_laws.specs.TopologyInvariant.{HoldsInTopologyAct}
-use Rattle.topology_laws.specs.TopologyScenes.{TopologyState, TopologyScene, topology_in_act, topology_state, topology_at}
+use Rattle.topology_laws.specs.TopologyScenes.{TopologyScene, TopologyState, topology_at, topology_in_act, topology_state}
 use Rattle.topology_laws.proofs.Lists.{found_there}
 use Rattle.topology_laws.proofs.Rows.{below_seen, kept_under, node_shown, own_holds}
 use Rattle.topology_laws.proofs.Sounds.{last_split, left_drop, oldest_is_member, oldest_stays}

@@ -23,7 +23,7 @@ use Rattle.link_laws.proofs.Journals.{first_rest, lost_parts}
 use Rattle.node_state.specs.Node.{NodeState}
 use Rattle.topology_laws.specs.TopologyFacts.{HoldsOfEach, RecordsFitFrom, HasAtLeast, HasSomeMap, HasSeen, IsExact, IsUpTo, IsLostOr, PartFits, SingleTells, MessageTells, is_leave_of, is_opens_of, openings_to_come, last_members, never_leaves, openings_by, opens_on_link}
 use Rattle.topology_laws.specs.TopologyInvariant.{HoldsInTopologyAct, TopologyInvariant}
-use Rattle.topology_laws.specs.TopologyScenes.{TopologyState, TopologyScene, TopologyPart, topology_in_act, topology_state, parts_with, topology_at}
+use Rattle.topology_laws.specs.TopologyScenes.{TopologyPart, TopologyScene, TopologyState, parts_with, topology_at, topology_in_act, topology_state}
 use Rattle.topology_laws.proofs.Later.{Later, computed_later, one_later, fit_later, link_later, seat_later}
 use Rattle.topology_laws.proofs.Lists.{each_rest}
 use Rattle.topology_laws.proofs.Records.{installed_more, lost_more, map_more, map_same, maps_in}

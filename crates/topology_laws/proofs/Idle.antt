@@ -13,7 +13,7 @@ use Rattle.node_state.specs.declared.topology.Exchange.{Exchange}
 use Rattle.part_model.specs.Directory.{oldest_member}
 use Rattle.topology_laws.specs.TopologyFacts.{HoldsOfEach, HasSomeMap, IsOldestMember, OldestFits, PartFits, MessageTells, opens_at_part, opens_at, opens_in_exchange, is_opens_of, openings_to_come, opens_on_link, opens_in_outbox}
 use Rattle.topology_laws.specs.TopologyInvariant.{TopologyInvariant}
-use Rattle.topology_laws.specs.TopologyScenes.{TopologyState, TopologyScene, TopologyPart, topology_at}
+use Rattle.topology_laws.specs.TopologyScenes.{TopologyPart, TopologyScene, TopologyState, topology_at}
 use Rattle.topology_laws.proofs.Counts.{count_none}
 use Rattle.topology_laws.proofs.Lists.{each_change}
 use Rattle.topology_laws.proofs.Tops.{one_place}

@@ -23,7 +23,7 @@ use Rattle.scenes.specs.Scenes.{state_at_rest, scene_after_join, scene_after_los
 use Rattle.scenes.specs.Scenes as scenes
 use Rattle.topology_laws.specs.TopologyFacts.{HoldsOfEach, IsLastOpening, IsLostOr, NodeFits, PartFits, MessageTells, opens_at, is_opens_of, openings_to_come, openings_by, opens_on_link}
 use Rattle.topology_laws.specs.TopologyInvariant.{HoldsInTopologyAct, TopologyInvariant}
-use Rattle.topology_laws.specs.TopologyScenes.{TopologyState, TopologyScene, TopologyPart, topology_in_act, topology_state, topology_scene, parts_with}
+use Rattle.topology_laws.specs.TopologyScenes.{TopologyPart, TopologyScene, TopologyState, parts_with, topology_in_act, topology_scene, topology_state}
 use Rattle.topology_laws.proofs.Acts.{message_good}
 use Rattle.topology_laws.proofs.Counts.{count_first, count_head, count_parts, count_rest, no_more_in, none_opened, opened_parts}
 use Rattle.topology_laws.proofs.Frames.{begins_as, calm_inv, calm_later, changed, changed_inv, changed_later, not_lost_before}

@@ -31,7 +31,7 @@ use Rattle.topology_laws.proofs.Records.{maps_in}
 use Rattle.topology_laws.proofs.Tops.{up_itself}
 use Rattle.topology_laws.specs.TopologyFacts.{OldestHasMap, RecordsFitFrom, HasMap, HasSeen, IsUnjoined, NodeFits, PartFits, opens_at_part, is_opens_of}
 use Rattle.topology_laws.specs.TopologyInvariant.{TopologyInvariant}
-use Rattle.topology_laws.specs.TopologyScenes.{TopologyScene, TopologyPart, topology_state, topology_scene, topology_at}
+use Rattle.topology_laws.specs.TopologyScenes.{TopologyPart, TopologyScene, topology_at, topology_scene, topology_state}
 use Rattle.topology_laws.proofs.Acts.{answer_good, call_good, expire_good, see_good}
 use Rattle.topology_laws.proofs.Counts.{no_more_in, none_opened}
 use Rattle.topology_laws.proofs.Frames.{appended_inv, calm_inv}

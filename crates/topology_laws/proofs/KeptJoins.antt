@@ -30,7 +30,7 @@ use Rattle.scenes.specs.Scenes.{state_at_rest, scene_after_join, scene_after_los
 use Rattle.scenes.specs.Scenes as scenes
 use Rattle.topology_laws.specs.TopologyFacts.{HoldsOfEach, ExchangeFits, HasSeen, IsBehind, IsExact, IsUnjoined, IsUpTo, IsLostOr, MapFits, MemberFits, NodeFits, OldestFits, PartFits, SingleTells, MessageTells, opens_at_part, opens_at, opens_in_exchange, openings_to_come, last_members, openings_by, opens_on_link, opens_in_outbox}
 use Rattle.topology_laws.specs.TopologyInvariant.{HoldsInTopologyAct, TopologyInvariant}
-use Rattle.topology_laws.specs.TopologyScenes.{TopologyState, TopologyScene, TopologyPart, topology_state, topology_scene, parts_with, topology_at}
+use Rattle.topology_laws.specs.TopologyScenes.{TopologyPart, TopologyScene, TopologyState, parts_with, topology_at, topology_scene, topology_state}
 use Rattle.topology_laws.proofs.Acts.{see_good}
 use Rattle.topology_laws.proofs.Counts.{none_opened}
 use Rattle.topology_laws.proofs.Frames.{StillHolds, changed, changed_inv, changed_later, left_push, longer, not_lost_before, now_after, same_number, sat_push}

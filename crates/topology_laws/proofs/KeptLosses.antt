@@ -20,7 +20,7 @@ use Rattle.scenes.specs.Scenes.{state_at_rest, scene_after_join, scene_after_los
 use Rattle.scenes.specs.Scenes as scenes
 use Rattle.topology_laws.specs.TopologyFacts.{HoldsOfEach, IsLostOr, NodeFits, PartFits, SingleTells, MessageTells, opens_at_part, is_opens_of, last_members, opens_on_link}
 use Rattle.topology_laws.specs.TopologyInvariant.{TopologyInvariant}
-use Rattle.topology_laws.specs.TopologyScenes.{TopologyState, TopologyScene, TopologyPart, topology_state, topology_scene}
+use Rattle.topology_laws.specs.TopologyScenes.{TopologyPart, TopologyScene, TopologyState, topology_scene, topology_state}
 use Rattle.topology_laws.proofs.Counts.{no_more_in}
 use Rattle.topology_laws.proofs.Frames.{StillHolds, changed_inv, changed_later, left_push, longer, not_lost_before, now_after, same_number, sat_push}
 use Rattle.topology_laws.proofs.Later.{Later, link_later, node_later, seat_later}

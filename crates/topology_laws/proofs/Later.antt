@@ -18,7 +18,7 @@ use Rattle.link_laws.proofs.Frames.{all_change}
 use Rattle.node_state.specs.declared.life.Life.{Life}
 use Rattle.node_state.specs.declared.topology.Exchange.{Exchange}
 use Rattle.topology_laws.specs.TopologyFacts.{AllHaveInstalled, OldestHasMap, HoldsOfEach, ExchangeFits, RecordsFitFrom, RecordFits, HasMap, HasSomeMap, HasSeen, IsExact, IsUnjoined, IsMemberOf, IsMapOfVersion, IsOldestMember, MapFits, MemberFits, NodeFits, OldestFits, PartFits, SingleTells, MessageTells, is_lost_or_has_installed, last_members}
-use Rattle.topology_laws.specs.TopologyScenes.{TopologyState, TopologyScene, has_installed, map_of, topology_at}
+use Rattle.topology_laws.specs.TopologyScenes.{TopologyScene, TopologyState, has_noted_map, map_of, topology_at}
 use Rattle.topology_laws.proofs.Lists.{each_change}
 use Rattle.topology_laws.proofs.Records.{or_first, or_second}
 use Rattle.ignite_types.specs.declared.message.Message.TheVariants as msg
@@ -29,16 +29,16 @@ pub record Later (a b : TopologyScene) : Type 0 where
   pub same_scenario : b.scenario ≡ a.scenario
   pub events : (k : ℕ) → k ≤ length a.events → (k ≤ length b.events) × (topology_at b k ≡ topology_at a k)
   pub lost : (n : NodeId) → is_lost a.recs n ≡ true → is_lost b.recs n ≡ true
-  pub installed : (top : TopVer) (n : NodeId) → has_installed a.recs top n ≡ true → has_installed b.recs top n ≡ true
+  pub installed : (top : TopVer) (n : NodeId) → has_noted_map a.recs top n ≡ true → has_noted_map b.recs top n ≡ true
   pub maps : (top : TopVer) (m : PartMap) → map_of a top ≡ Some m → map_of b top ≡ Some m
   pub seen : (top : TopVer) (n : NodeId) → HasSeen a top n → HasSeen b top n
   pub has_map : (top : TopVer) (n : NodeId) → HasMap a top n → HasMap b top n
   pub exact : (from to : NodeId) (top : TopVer) (m : Option PartMap) → SingleTells a from to top m → IsExact b from to top m
 
 module _ (a b : TopologyScene) (l : Later a b) where
-  either_later : (top : TopVer) (x y : Bool) (m : Member) → is_lost a.recs m.node ≡ x → has_installed a.recs top m.node ≡ y → (x || y) ≡ true → is_lost_or_has_installed b.recs top m ≡ true
-  either_later top true y m x_is y_is e = or_first (is_lost b.recs m.node) (has_installed b.recs top m.node) (l.lost m.node x_is)
-  either_later top false true m x_is y_is e = or_second (is_lost b.recs m.node) (has_installed b.recs top m.node) (l.installed top m.node y_is)
+  either_later : (top : TopVer) (x y : Bool) (m : Member) → is_lost a.recs m.node ≡ x → has_noted_map a.recs top m.node ≡ y → (x || y) ≡ true → is_lost_or_has_installed b.recs top m ≡ true
+  either_later top true y m x_is y_is e = or_first (is_lost b.recs m.node) (has_noted_map b.recs top m.node) (l.lost m.node x_is)
+  either_later top false true m x_is y_is e = or_second (is_lost b.recs m.node) (has_noted_map b.recs top m.node) (l.installed top m.node y_is)
   either_later top false false m x_is y_is e = absurd (cc (e))
 
   pub all_installed_later : (top : TopVer) → AllHaveInstalled a top → AllHaveInstalled b top
@@ -50,7 +50,7 @@ module _ (a b : TopologyScene) (l : Later a b) where
         is_top = ap (λ (t : Topology). t.top) at.1 ∙ i.is_top;
         all = subst (λ (t : Topology). list_all (is_lost_or_has_installed b.recs top) t.members ≡ true) (sym at.1)
             (all_change (is_lost_or_has_installed a.recs top) (is_lost_or_has_installed b.recs top) (topology_at a i.place).members
-            (λ m e. either_later top (is_lost a.recs m.node) (has_installed a.recs top m.node) m refl refl e) i.all);
+            (λ m e. either_later top (is_lost a.recs m.node) (has_noted_map a.recs top m.node) m refl refl e) i.all);
       }
 
   pub computed_later : (top : TopVer) → OldestHasMap a top → OldestHasMap b top
@@ -113,7 +113,7 @@ module _ (a b : TopologyScene) (l : Later a b) where
 
   pub exchange_later : (t : Topology) (x : Option Exchange) → ExchangeFits a t x → ExchangeFits b t x
   exchange_later t None fits = tt
-  exchange_later t (Some x) fits = (fits.0, all_change (has_installed a.recs x.top) (has_installed b.recs x.top) x.installed (λ n e. l.installed x.top n e) fits.1)
+  exchange_later t (Some x) fits = (fits.0, all_change (has_noted_map a.recs x.top) (has_noted_map b.recs x.top) x.installed (λ n e. l.installed x.top n e) fits.1)
 
   pub node_later : (n : NodeId) (f : TopologyState) → is_lost b.recs n ≡ false → is_member (last_members b) n ≡ true → NodeFits a n f → NodeFits b n f
   node_later n f lives member fits =

@@ -20,7 +20,7 @@ use Rattle.scenes.specs.Scenes as scenes
 use Rattle.scenes.proofs.EachRun.{directory_told, few}
 use Rattle.scenes.proofs.Runs as runs
 use Rattle.scenes.specs.EachRun.{IsRunOf, is_short_run}
-use Rattle.topology_laws.specs.TopologyScenes.{TopologyScene, topology_scene, topology_at}
+use Rattle.topology_laws.specs.TopologyScenes.{TopologyScene, topology_at, topology_scene}
 use Rattle.topology_laws.proofs.KeptAll.{Topologies, opening_kept, topologies_kept}
 use Rattle.topology_laws.proofs.Tops.{one_place}
 use Rattle.tx_model.specs.Opening.{opening}

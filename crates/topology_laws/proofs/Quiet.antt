@@ -19,7 +19,7 @@ use Rattle.node_state.specs.Node.{NodeState}
 use Rattle.topology_laws.specs.TopologyFacts.{HoldsOfEach, IsUpTo, NodeFits, MessageTells, opens_in_exchange, is_opens_of, opens_in_outbox}
 use Rattle.topology_laws.specs.TopologyInvariant.{HoldsInTopologyAct}
 use Rattle.topology_laws.specs.LeavesTopology.{LeavesTopology, says_no_topology}
-use Rattle.topology_laws.specs.TopologyScenes.{TopologyState, TopologyScene, topology_in_act, topology_state}
+use Rattle.topology_laws.specs.TopologyScenes.{TopologyScene, TopologyState, topology_in_act, topology_state}
 use Rattle.topology_laws.proofs.Lists.{each_both}
 use Rattle.topology_laws.proofs.Steps.{calm_good, no_more}
 use Rattle.topology_laws.proofs.Counts.{count_parts, plain_out}

@@ -18,7 +18,7 @@ use Rattle.journal_statements.specs.Noted.{Noted, is_lost, is_lost_in, map_in, m
 use Rattle.link_laws.proofs.Journals.{first_rest, lost_parts}
 use Rattle.link_laws.proofs.LinkTables.{or_true}
 use Rattle.topology_laws.specs.LeavesTopology.{says_no_topology}
-use Rattle.topology_laws.specs.TopologyScenes.{has_installed, is_install_of_version}
+use Rattle.topology_laws.specs.TopologyScenes.{has_noted_map, is_install_of_version}
 use Rattle.topology_laws.proofs.Lists.{found_more, none_more}
 use Rattle.ignite_types.specs.declared.journal.Rec.TheVariants as note
 
@@ -31,16 +31,16 @@ or_second a b is = rw is (or_true a)
 pub lost_more : (recs more : List Noted) (n : NodeId) → is_lost recs n ≡ true → is_lost (recs ++ more) n ≡ true
 lost_more recs more n is = lost_parts recs more n ∙ or_first (is_lost recs n) (is_lost more n) is
 
-pub installed_parts : (recs more : List Noted) (top : TopVer) (n : NodeId) → has_installed (recs ++ more) top n ≡ (has_installed recs top n || has_installed more top n)
+pub installed_parts : (recs more : List Noted) (top : TopVer) (n : NodeId) → has_noted_map (recs ++ more) top n ≡ (has_noted_map recs top n || has_noted_map more top n)
 installed_parts recs more top n = list_any-append (λ (x : Noted). is_node n x.node && is_install_of_version top x.rec) recs more
 
-pub installed_more : (recs more : List Noted) (top : TopVer) (n : NodeId) → has_installed recs top n ≡ true → has_installed (recs ++ more) top n ≡ true
-installed_more recs more top n is = installed_parts recs more top n ∙ or_first (has_installed recs top n) (has_installed more top n) is
+pub installed_more : (recs more : List Noted) (top : TopVer) (n : NodeId) → has_noted_map recs top n ≡ true → has_noted_map (recs ++ more) top n ≡ true
+installed_more recs more top n is = installed_parts recs more top n ∙ or_first (has_noted_map recs top n) (has_noted_map more top n) is
 
-pub installs_now : (recs : List Noted) (m : PartMap) (n : NodeId) → has_installed (recs ++ noted_by (Some n) (note.Install m ∷ [])) m.top n ≡ true
+pub installs_now : (recs : List Noted) (m : PartMap) (n : NodeId) → has_noted_map (recs ++ noted_by (Some n) (note.Install m ∷ [])) m.top n ≡ true
 installs_now recs m n =
     installed_parts recs (noted_by (Some n) (note.Install m ∷ [])) m.top n
-    ∙ or_second (has_installed recs m.top n) (has_installed (noted_by (Some n) (note.Install m ∷ [])) m.top n) (rw (same_node_itself n, same_top_itself m.top) refl)
+    ∙ or_second (has_noted_map recs m.top n) (has_noted_map (noted_by (Some n) (note.Install m ∷ [])) m.top n) (rw (same_node_itself n, same_top_itself m.top) refl)
 
 -- Maps.
 

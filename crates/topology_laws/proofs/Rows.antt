@@ -35,7 +35,7 @@ use Rattle.ordered_set.specs.Members.{has, with_member}
 use Rattle.topology_laws.specs.TopologyFacts.{AllHaveInstalled, HoldsOfEach, ExchangeFits, HasAtLeast, HasSomeMap, HasSeen, IsMemberOf, IsMapOfVersion, IsOldestMember, IsUpTo, IsAliveWith, IsLostOr, MapFits, OldestFits, SingleTells, MessageTells, opens_at, opens_in_exchange, is_opens_of, is_lost_or_has_installed, openings_to_come, openings_by, opens_on_link, opens_in_outbox}
 use Rattle.topology_laws.specs.TopologyInvariant.{HoldsInTopologyAct}
 use Rattle.topology_laws.specs.LeavesTopology.{LeavesTopology}
-use Rattle.topology_laws.specs.TopologyScenes.{TopologyState, TopologyScene, TopologyPart, topology_in_act, topology_state, has_installed, map_of, topology_at}
+use Rattle.topology_laws.specs.TopologyScenes.{TopologyPart, TopologyScene, TopologyState, has_noted_map, map_of, topology_at, topology_in_act, topology_state}
 use Rattle.topology_laws.proofs.Counts.{count_parts, each_out_times, install_opened, other_out, times}
 use Rattle.topology_laws.proofs.Idle.{idle_other, none_in, none_out}
 use Rattle.topology_laws.proofs.Sets.{others_not_me, others_once}
@@ -113,8 +113,8 @@ all_there sc n s x fits all good =
       is_top = sym (ap (λ (t : Topology). t.top) k.known_is) ∙ sym fits.0;
       all = subst (λ (t : Topology). list_all (is_lost_or_has_installed (topology_in_act sc n s).recs x.top) t.members ≡ true) k.known_is
           (all_change (λ (m : Member). has node_cmp x.installed m.node) (is_lost_or_has_installed (topology_in_act sc n s).recs x.top) s.members
-          (λ m is. or_second (is_lost (topology_in_act sc n s).recs m.node) (has_installed (topology_in_act sc n s).recs x.top m.node)
-          (has_passes (has_installed (topology_in_act sc n s).recs x.top) x.installed m.node exact_node fits.1 is))
+          (λ m is. or_second (is_lost (topology_in_act sc n s).recs m.node) (has_noted_map (topology_in_act sc n s).recs x.top m.node)
+          (has_passes (has_noted_map (topology_in_act sc n s).recs x.top) x.installed m.node exact_node fits.1 is))
           all);
     }
 
@@ -296,8 +296,8 @@ computes_good sc n s may good =
     let good_told : HoldsInTopologyAct sc n told = other_good sc n there outs (λ to v. other_out v to (others_seen s) (msg.Full m) refl)
     (each_out (λ (o : Out). MessageTells (topology_in_act sc n there) n o.to o.msg) (others_seen s) (msg.Full m)
     (each_change (λ (x : NodeId). HasSeen (topology_in_act sc n s) m.top x × (is_member s.members x ≡ true)) (λ (x : NodeId). MessageTells (topology_in_act sc n there) n x (msg.Full m)) (others_seen s) (λ x h. (later.seen m.top x h.0, is_map, mine_oldest, own_lives sc n there (λ (f : TopologyState). HasAtLeast m.top f.installed) (up_itself m.top), own_in sc n there x good_there h.1)) others)) good_there in
-    let mine : has_installed (topology_in_act sc n told).recs m.top s.me ≡ true = subst (λ (x : NodeId). has_installed (topology_in_act sc n told).recs m.top x ≡ true) (sym k.me_is)
-    (ap (λ rs. has_installed rs m.top n) (recs_grow sc n fewer there st) ∙ installs_now (topology_in_act sc n fewer).recs m n) in
+    let mine : has_noted_map (topology_in_act sc n told).recs m.top s.me ≡ true = subst (λ (x : NodeId). has_noted_map (topology_in_act sc n told).recs m.top x ≡ true) (sym k.me_is)
+    (ap (λ rs. has_noted_map rs m.top n) (recs_grow sc n fewer there st) ∙ installs_now (topology_in_act sc n fewer).recs m n) in
     let x0 : Exchange = record { top = m.top; installed = s.me ∷ [] } in
     let one_told : HasSomeMap (topology_in_act sc n told) m.top = record { one = m; is_map = is_map } in
     let told_oldest : IsOldestMember (topology_in_act sc n told) m.top n = own_oldest sc n told m.top good_told refl oldest in
@@ -364,7 +364,7 @@ full_row_good sc n s from m lives tells good =
           let sound : IsExactAfter sc n s m = full_sound sc n s m good from (newer_not m s.installed t) tells.2 (sender_has tells.3) in
           let st : Step sc n s (after_install s m) = install_step sc n s m newer sound in
           other_good sc n (after_install s m) (record { to = from; msg = msg.Installed m.top } ∷ []) (λ to v. plain_none to v from)
-          (ap (λ rs. has_installed rs m.top n) (recs_grow sc n s (after_install s m) st) ∙ installs_now (topology_in_act sc n s).recs m n, tt)
+          (ap (λ rs. has_noted_map rs m.top n) (recs_grow sc n s (after_install s m) st) ∙ installs_now (topology_in_act sc n s).recs m n, tt)
           (installs_good sc n s m (inl tells.1) (own_holds sc n s (λ (f : TopologyState). IsUpTo m.top f.known.top) good tells.0) newer sound tells.4 good)
       | false ↦ λ f. good
     ]) refl
@@ -378,20 +378,20 @@ full_row_good sc n s from m lives tells good =
 
 -- Installed.
 
-counts_installed_good : (sc : TopologyScene) (n : NodeId) (s : NodeState) (from : NodeId) (top : TopVer) (found : Option Exchange) → ExchangeFits (topology_in_act sc n s) (topology_state s).known found → OldestFits (topology_in_act sc n s) n found → OwnOnce sc n s (record s { exchange = found }) → has_installed (topology_in_act sc n s).recs top from ≡ true → HoldsInTopologyAct sc n s
+counts_installed_good : (sc : TopologyScene) (n : NodeId) (s : NodeState) (from : NodeId) (top : TopVer) (found : Option Exchange) → ExchangeFits (topology_in_act sc n s) (topology_state s).known found → OldestFits (topology_in_act sc n s) n found → OwnOnce sc n s (record s { exchange = found }) → has_noted_map (topology_in_act sc n s).recs top from ≡ true → HoldsInTopologyAct sc n s
     → HoldsInTopologyAct sc n (after_count_installed s from top found)
 counts_installed_good sc n s from top None fits oldest once tells good = good
 counts_installed_good sc n s from top (Some x) fits oldest once tells good =
     let more : Exchange = record x { installed = with_member node_cmp x.installed from } in
     (elim (same_top x.top top) as (λ b. same_top x.top top ≡ b → HoldsInTopologyAct sc n (if b then after_count s more else s)) [
       | true ↦ λ t.
-          let test = has_installed (topology_in_act sc n s).recs x.top in
-          let his : test from ≡ true = subst (λ (v : TopVer). has_installed (topology_in_act sc n s).recs v from ≡ true) (sym (same_top_true x.top top t)) tells in
+          let test = has_noted_map (topology_in_act sc n s).recs x.top in
+          let his : test from ≡ true = subst (λ (v : TopVer). has_noted_map (topology_in_act sc n s).recs v from ≡ true) (sym (same_top_true x.top top t)) tells in
           counts_good sc n s more (fits.0, each_all test more.installed (each_with (λ (y : NodeId). test y ≡ true) x.installed from his (all_each test x.installed fits.1))) oldest once good
       | false ↦ λ f. good
     ]) refl
 
-pub installed_row_good : (sc : TopologyScene) (n : NodeId) (s : NodeState) (from : NodeId) (top : TopVer) → has_installed (topology_in_act sc n s).recs top from ≡ true → HoldsInTopologyAct sc n s → HoldsInTopologyAct sc n (after_installed s from top)
+pub installed_row_good : (sc : TopologyScene) (n : NodeId) (s : NodeState) (from : NodeId) (top : TopVer) → has_noted_map (topology_in_act sc n s).recs top from ≡ true → HoldsInTopologyAct sc n s → HoldsInTopologyAct sc n (after_installed s from top)
 installed_row_good sc n s from top tells good = counts_installed_good sc n s from top s.exchange (own_fits sc n s good).exchange_fits (own_fits sc n s good).exchange_oldest (own_once sc n s good) tells good
 
 -- Closing.

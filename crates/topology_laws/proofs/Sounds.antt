@@ -22,7 +22,7 @@ use Rattle.link_laws.proofs.Places.{some_is}
 use Rattle.node_state.specs.Node.{NodeState}
 use Rattle.topology_laws.specs.TopologyFacts.{HasAtLeast, IsBehind, IsNoHigherMap, IsOldestMember, IsUpTo, IsAliveWith, IsLostOr, is_leave_of, last_members, never_leaves}
 use Rattle.topology_laws.specs.TopologyInvariant.{HoldsInTopologyAct, TopologyInvariant}
-use Rattle.topology_laws.specs.TopologyScenes.{TopologyState, TopologyScene, TopologyPart, topology_in_act, topology_state, topology_at}
+use Rattle.topology_laws.specs.TopologyScenes.{TopologyPart, TopologyScene, TopologyState, topology_at, topology_in_act, topology_state}
 use Rattle.topology_laws.proofs.Steps.{IsExactAfter, alive_fits, own_fits, put_other, put_same}
 use Rattle.topology_laws.proofs.Tops.{up_itself}
 use Rattle.ignite_types.specs.declared.journal.TopoEvent.TheVariants as topo

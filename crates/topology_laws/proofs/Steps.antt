@@ -28,7 +28,7 @@ use Rattle.node_state.specs.declared.topology.Exchange.{Exchange}
 use Rattle.topology_laws.specs.TopologyFacts.{AllHaveInstalled, OldestHasMap, HoldsOfEach, ExchangeFits, RecordsFitFrom, RecordFits, HasAtLeast, HasMap, HasSomeMap, IsBehind, IsExact, IsMemberOf, IsNoHigherMap, IsUpTo, IsAliveWith, IsLostOr, MapFits, NodeFits, OldestFits, PartFits, SingleTells, MessageTells, opens_at, opens_in_exchange, is_opens_of, openings_to_come, openings_by, opens_on_link, opens_in_outbox, IsBelow}
 use Rattle.topology_laws.specs.TopologyInvariant.{HoldsInTopologyAct}
 use Rattle.topology_laws.specs.LeavesTopology.{says_no_topology}
-use Rattle.topology_laws.specs.TopologyScenes.{TopologyState, TopologyScene, TopologyPart, topology_in_act, topology_state, has_installed, map_of, parts_with, topology_at}
+use Rattle.topology_laws.specs.TopologyScenes.{TopologyPart, TopologyScene, TopologyState, has_noted_map, map_of, parts_with, topology_at, topology_in_act, topology_state}
 use Rattle.topology_laws.proofs.Later.{Later, computed_later, oldest_fits_later, one_later, exchange_later, fit_later, in_later, link_later, node_later, outbox_later, seat_later, singles_later}
 use Rattle.topology_laws.proofs.Counts.{count_parts, install_opened, none_opened, opened_elsewhere, opened_here, opened_parts}
 use Rattle.topology_laws.proofs.Lists.{each_both}
@@ -123,7 +123,7 @@ module _ (sc : TopologyScene) (n : NodeId) (a b : NodeState) (st : Step sc n a b
     same_scenario = refl;
     events = λ k within. (within, refl);
     lost = λ m e. subst (λ (rs : List Noted). is_lost rs m ≡ true) (sym recs_grow) (lost_more (topology_in_act sc n a).recs (noted_by (Some n) st.more) m e);
-    installed = λ top m e. subst (λ (rs : List Noted). has_installed rs top m ≡ true) (sym recs_grow) (installed_more (topology_in_act sc n a).recs (noted_by (Some n) st.more) top m e);
+    installed = λ top m e. subst (λ (rs : List Noted). has_noted_map rs top m ≡ true) (sym recs_grow) (installed_more (topology_in_act sc n a).recs (noted_by (Some n) st.more) top m e);
     maps = λ top m e. subst (λ (rs : List Noted). map_of_version (maps_installed sc.scenario rs) top ≡ Some m) (sym recs_grow) (map_more sc.scenario (topology_in_act sc n a).recs (noted_by (Some n) st.more) top m e);
     seen = λ top m h. either_after m (λ (f : TopologyState). IsUpTo top f.known.top) (st.seen_up top) h;
     has_map = λ top m h. either_after m (λ (f : TopologyState). HasAtLeast top f.installed) (st.map_up top) h;

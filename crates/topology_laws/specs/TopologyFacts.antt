@@ -17,7 +17,7 @@ use Rattle.journal_statements.specs.Noted.{Noted, is_lost, map_of_version, maps_
 use Rattle.journal_statements.specs.Topologies.{Topology}
 use Rattle.node_state.specs.declared.life.Life.{Life}
 use Rattle.node_state.specs.declared.topology.Exchange.{Exchange}
-use Rattle.topology_laws.specs.TopologyScenes.{TopologyState, TopologyScene, TopologyPart, has_installed, map_of, topology_at}
+use Rattle.topology_laws.specs.TopologyScenes.{TopologyPart, TopologyScene, TopologyState, has_noted_map, map_of, topology_at}
 use Rattle.ignite_types.specs.declared.message.Message.TheVariants as msg
 use Rattle.ignite_types.specs.declared.journal.Rec.TheVariants as note
 use Rattle.node_state.specs.declared.life.Life.TheVariants as life
@@ -59,7 +59,7 @@ abbrev pub HasMap : TopologyScene → TopVer → NodeId → Type 0
 HasMap sc top n = IsLostOr sc n (λ (f : TopologyState). HasAtLeast top f.installed)
 
 abbrev pub is_lost_or_has_installed : List Noted → TopVer → Member → Bool
-is_lost_or_has_installed recs top m = is_lost recs m.node || has_installed recs top m.node
+is_lost_or_has_installed recs top m = is_lost recs m.node || has_noted_map recs top m.node
 
 -- each member of a version is lost or has installed a map of it
 pub record AllHaveInstalled (sc : TopologyScene) (top : TopVer) : Type 0 where
@@ -124,7 +124,7 @@ abbrev pub MessageTells : TopologyScene → NodeId → NodeId → Message → Ty
 MessageTells sc from to (msg.Single top m complete) = SingleTells sc from to top m
 MessageTells sc from to (msg.Full m) =
     HasSeen sc m.top to × (map_of sc m.top ≡ Some m) × IsOldestMember sc m.top from × HasMap sc m.top from × IsMemberOf sc m.top to
-MessageTells sc from to (msg.Installed top) = has_installed sc.recs top from ≡ true
+MessageTells sc from to (msg.Installed top) = has_noted_map sc.recs top from ≡ true
 MessageTells sc from to (msg.Opens top) = AllHaveInstalled sc top × IsOldestMember sc top from × HasSomeMap sc top
 MessageTells sc from to _ = Unit {0}
 
@@ -138,7 +138,7 @@ MemberFits sc n (Some m) = IsMemberOf sc m.top n
 
 abbrev pub ExchangeFits : TopologyScene → Topology → Option Exchange → Type 0
 ExchangeFits sc t None = Unit {0}
-ExchangeFits sc t (Some x) = (x.top ≡ t.top) × (list_all (has_installed sc.recs x.top) x.installed ≡ true)
+ExchangeFits sc t (Some x) = (x.top ≡ t.top) × (list_all (has_noted_map sc.recs x.top) x.installed ≡ true)
 
 -- the members of the last version
 abbrev pub last_members : TopologyScene → List Member

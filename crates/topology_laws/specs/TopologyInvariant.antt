@@ -8,7 +8,7 @@ use Rattle.ignite_types.specs.declared.names.TopVer.{TopVer}
 use Rattle.ignite_types.specs.declared.placement.PartMap.{PartMap}
 use Rattle.journal_statements.specs.Noted.{is_lost}
 use Rattle.node_state.specs.Node.{NodeState}
-use Rattle.topology_laws.specs.TopologyScenes.{TopologyScene, TopologyPart, topology_in_act, map_of, topology_at}
+use Rattle.topology_laws.specs.TopologyScenes.{TopologyPart, TopologyScene, map_of, topology_at, topology_in_act}
 
 pub record TopologyInvariant (sc : TopologyScene) : Type 0 where
   -- Members.

@@ -91,5 +91,5 @@ is_install_of_version top (note.Install m) = same_top m.top top
 is_install_of_version top r = false
 
 -- whether a node has installed a map of a version
-abbrev pub has_installed : List Noted → TopVer → NodeId → Bool
-has_installed recs top node = list_any (λ (n : Noted). is_node node n.node && is_install_of_version top n.rec) recs
+abbrev pub has_noted_map : List Noted → TopVer → NodeId → Bool
+has_noted_map recs top node = list_any (λ (n : Noted). is_node node n.node && is_install_of_version top n.rec) recs

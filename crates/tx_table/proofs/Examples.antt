@@ -2,7 +2,7 @@
 use Rattle.std.proofs.Common.{◌≡◌, [], ◌∷◌, List, None, Some, refl, replicate}
 use Rattle.ignite_types.specs.declared.text.Key.{Key}
 use Rattle.node_state.specs.declared.near.Read.{Read}
-use Rattle.tx_table.specs.Touches.{reads_in, touch_from, touch_in, with_read, with_write, writes_in}
+use Rattle.tx_table.specs.Touches.{reads_in, touch_from, touch_in, with_key_read, with_key_write, writes_in}
 use Rattle.tx_table.specs.declared.entry.Touched.{Touched}
 use Rattle.tx_table.specs.declared.entry.Touch.TheVariants.{Fresh, Known}
 
@@ -22,20 +22,20 @@ abbrev both : List (Key × Touched)
 both = (a, vacant) ∷ (b, vacant) ∷ []
 
 -- a read is seen, and a later write in its place, also that of nothing
-read_is_seen : touch_in (with_read both b found) b ≡ Some (Known (Some (49 ∷ [])))
+read_is_seen : touch_in (with_key_read both b found) b ≡ Some (Known (Some (49 ∷ [])))
 read_is_seen = refl
 
-write_is_seen : touch_in (with_write (with_read both b found) b None) b ≡ Some (Known None)
+write_is_seen : touch_in (with_key_write (with_key_read both b found) b None) b ≡ Some (Known None)
 write_is_seen = refl
 
 -- nothing is kept of a key that was not touched
-read_is_lost : with_read ((a, vacant) ∷ []) b found ≡ (a, vacant) ∷ []
+read_is_lost : with_key_read ((a, vacant) ∷ []) b found ≡ (a, vacant) ∷ []
 read_is_lost = refl
 
-reads_by_key : reads_in (with_write (with_read both b found) a None) ≡ (b, found) ∷ []
+reads_by_key : reads_in (with_key_write (with_key_read both b found) a None) ≡ (b, found) ∷ []
 reads_by_key = refl
 
-writes_by_key : writes_in (with_write (with_read both b found) a None) ≡ (a, None) ∷ []
+writes_by_key : writes_in (with_key_write (with_key_read both b found) a None) ≡ (a, None) ∷ []
 writes_by_key = refl
 
 -- a 64th key is touched, and no 65th

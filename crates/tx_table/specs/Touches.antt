@@ -26,11 +26,11 @@ touch_from keys None = if nat_lt (length keys) 64 then Some Fresh else None
 abbrev pub touch_in : TouchedKeys → Key → Option Touch
 touch_in keys key = touch_from keys (at key_cmp keys key)
 
-abbrev pub with_read : TouchedKeys → Key → Read → TouchedKeys
-with_read keys key read = with_changed key_cmp keys key (λ (t : Touched). record { read = Some read; write = t.write })
+abbrev pub with_key_read : TouchedKeys → Key → Read → TouchedKeys
+with_key_read keys key read = with_changed key_cmp keys key (λ (t : Touched). record { read = Some read; write = t.write })
 
-abbrev pub with_write : TouchedKeys → Key → Option (List ℕ) → TouchedKeys
-with_write keys key new = with_changed key_cmp keys key (λ (t : Touched). record { read = t.read; write = Some new })
+abbrev pub with_key_write : TouchedKeys → Key → Option (List ℕ) → TouchedKeys
+with_key_write keys key new = with_changed key_cmp keys key (λ (t : Touched). record { read = t.read; write = Some new })
 
 -- a value in front of others by key, where there is one
 abbrev pub in_front : {V : Type 0} → Key → Option V → List (Key × V) → List (Key × V)

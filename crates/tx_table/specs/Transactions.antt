@@ -10,7 +10,7 @@ use Rattle.node_state.specs.declared.near.TxState.{TxState}
 use Rattle.node_state.specs.declared.near.TxState.TheVariants.{Idle}
 use Rattle.ordered_table.specs.Entries.{at, put}
 use Rattle.tx_table.specs.Changed.{with_changed}
-use Rattle.tx_table.specs.Touches.{TouchedKeys, touch_in, with_read, with_write}
+use Rattle.tx_table.specs.Touches.{TouchedKeys, touch_in, with_key_read, with_key_write}
 use Rattle.tx_table.specs.declared.entry.Touch.{Touch}
 use Rattle.tx_table.specs.declared.entry.Touch.TheVariants.{Fresh}
 use Rattle.tx_table.specs.declared.entry.TouchFault.{TouchFault}
@@ -53,11 +53,11 @@ after_touch txs tx key answer = txs
 
 abbrev pub read_kept : Transactions → TxId → Key → Read → Transactions
 read_kept txs tx key read =
-    with_changed tx_cmp txs tx (λ (t : Transaction). record t { touched = with_read t.touched key read })
+    with_changed tx_cmp txs tx (λ (t : Transaction). record t { touched = with_key_read t.touched key read })
 
 abbrev pub write_kept : Transactions → TxId → Key → Option (List ℕ) → Transactions
 write_kept txs tx key new =
-    with_changed tx_cmp txs tx (λ (t : Transaction). record t { touched = with_write t.touched key new })
+    with_changed tx_cmp txs tx (λ (t : Transaction). record t { touched = with_key_write t.touched key new })
 
 abbrev pub with_top : Transactions → TxId → TopVer → Transactions
 with_top txs tx top = with_changed tx_cmp txs tx (λ (t : Transaction). record t { top = Some top })

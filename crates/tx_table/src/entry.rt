@@ -5,7 +5,7 @@ ghost use Rattle.part_model.specs.Tables.{keys_in};
 ghost use Rattle.ignite_types.specs.Names.{key_cmp};
 ghost use Rattle.ordered_table.specs.Entries.{put};
 ghost use Rattle.ordered_table.specs.Places.{IsAscending};
-ghost use Rattle.tx_table.specs.Touches.{reads_in, seen, touch_in, with_read, with_write, writes_in};
+ghost use Rattle.tx_table.specs.Touches.{reads_in, seen, touch_in, with_key_read, with_key_write, writes_in};
 ghost use Rattle.tx_table.specs.Transactions.{new_transaction};
 
 use ignite_types::limits::TRANSACTION_KEYS;
@@ -189,7 +189,7 @@ impl TxEntry {
     }
 
     pub(crate) fn keep_read(&mut self, key: &Key, read: Read)
-        ensures { self.new ≡ record self.old { touched = with_read self.old.touched key.now read } }
+        ensures { self.new ≡ record self.old { touched = with_key_read self.old.touched key.now read } }
     {
         if let Some(touched) = self.touched.get(key) {
             let write = touched.write;
@@ -199,7 +199,7 @@ impl TxEntry {
     }
 
     pub(crate) fn keep_write(&mut self, key: &Key, new: Option<Value>)
-        ensures { self.new ≡ record self.old { touched = with_write self.old.touched key.now new } }
+        ensures { self.new ≡ record self.old { touched = with_key_write self.old.touched key.now new } }
     {
         if let Some(touched) = self.touched.get(key) {
             let read = touched.read;

@@ -5,7 +5,7 @@ use Rattle.part_table.specs.History as history
 use Rattle.std.proofs.lemmas.List.Sorted.{length_permutation}
 use Rattle.part_table.specs.Surface.{EachOnce, PassView}
 use Rattle.part_table.proofs.Opening.{count_length, map_length}
-use Rattle.part_table.specs.Rule.{count_up}
+use Rattle.part_table.specs.Rule.{numbers_from}
 use Rattle.part_table.specs.Turns.{IsLater}
 use Rattle.part_table.proofs.Dealing.{all_more, all_of_last}
 use Rattle.part_table.proofs.Closed.{parts_there, some_event, lists_there, room_of, states_are, events_are, known_of, the_log, kept}
@@ -13,7 +13,7 @@ use Rattle.part_table.proofs.table.Parts.close.Goals as goal
 
 -- as many passes as the table was made with
 count_of : {M S E : Type 0} (n : ℕ) (passes : List (PassView M S E)) → EachOnce n passes → length passes ≡ n
-count_of n passes each = sym (map_length (λ p. p.number) passes) ∙ (sym (length_permutation (map (λ p. p.number) passes) (count_up 0 n) each) ∙ count_length 0 n)
+count_of n passes each = sym (map_length (λ p. p.number) passes) ∙ (sym (length_permutation (map (λ p. p.number) passes) (numbers_from 0 n) each) ∙ count_length 0 n)
 
 pub unreachable-requires : goal.unreachable-requires
 unreachable-requires g c = let a = c.in_default.ensures.cases.0 in let b = count_of _ c.args.passes.items c.requires.each in let s = c.args.self.sized.6 in let o = c.args.passes.ok in omega (arith, a, b, s, o)
@@ -84,7 +84,7 @@ returns g c = let key = c.args.self.table.shared.key in let sized = c.args.self.
           journal = events_are r key.limit key.passes key.machine _ _ _ _ c.close_with-closed.ensures.values.2 all c.gather-seat.ensures.idle.1 c.gather-seat.ensures.idle.2 c.word-found.result c.word-found.ensures _ c.if-found-limit.entries entries
               (c.take_events-events.ensures.events ∙ (λ i. take c.if-found-limit.entries (drop (sym sized.2 i) ((c.take_states-states.ensures.same.0 ∙ c.take_lists-states.ensures.same.0) i))));
           values = states_are r key.limit key.passes key.machine _ _ _ _ c.close_with-closed.ensures.values.2 all c.gather-seat.ensures.idle.1 c.gather-seat.ensures.idle.2 c.word-found.result c.word-found.ensures _
-              (c.take_states-states.ensures.states ∙ ((λ i. take (sym sized.2 i) (c.take_lists-states.ensures.same.0 i)))) ∙ ap (λ n. map (history.replay r log) (count_up 0 n)) sized.2;
+              (c.take_states-states.ensures.states ∙ ((λ i. take (sym sized.2 i) (c.take_lists-states.ensures.same.0 i)))) ∙ ap (λ n. map (history.replay r log) (numbers_from 0 n)) sized.2;
           known = all_more (λ (p : PassView g.row.M.Denot g.row.M-State.Denot g.row.M-Event.Denot). IsLater p.number p.seen log) _ _ _ (λ k d lt. known _ _ (c.gather-seat.ensures.others k d lt)) (known _ _ c.gather-seat.ensures.first) c.in-Some.ensures.items;
           strangers = (kept r key.limit key.passes key.machine _ _ _ _ c.close_with-closed.ensures.values.2 all c.gather-seat.ensures.idle.1 c.gather-seat.ensures.idle.2 c.word-found.result c.word-found.ensures).strangers;
         },

@@ -1,0 +1,4 @@
+pub mod Honest
+pub mod LawsRefused
+pub mod LongBlocks
+pub mod Refused

@@ -1,0 +1,4 @@
+pub mod ForgedLaws
+pub mod Forgeries
+pub mod Forging
+pub mod LongBlocks
