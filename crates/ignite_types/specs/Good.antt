@@ -51,8 +51,7 @@ abbrev pub is_started : Cache → Bool
 is_started cache = not cache.first && not cache.«data»
 
 abbrev pub good_cache : Cache → Bool
-good_cache cache =
-    is_name cache.name && is_within 1 PARTITIONS cache.parts && nat_le cache.backups BACKUPS && nat_le cache.near NEAR_ENTRIES
+good_cache cache = is_name cache.name && is_within 1 PARTITIONS cache.parts && nat_le cache.backups BACKUPS && nat_le cache.near NEAR_ENTRIES
 
 -- the caches of cache lines come first, then those of data lines, then the started ones
 abbrev pub in_order : List Cache → Bool
