@@ -1,6 +1,6 @@
 -- Before a record of them is forged the runs keep the headline.
 use Rattle.std.proofs.Common.{refl, true, ◌≡◌}
-use Rattle.forged_runs.specs.Forgeries.{blind_write, deadline_and_idle_cache, deadline_slept_over, link_held_up, one_waits, put_and_get, put_at_two, rolled_back_before_join, two_wait}
+use Rattle.forged_runs.specs.Forgeries.{blind_write, deadline_and_idle_cache, deadline_slept_over, one_hold, one_waits, put_and_get, put_at_two, rolled_back_before_join, two_wait}
 use Rattle.forged_runs.specs.Forging.{honest}
 use Rattle.journal_statements.specs.Headline.{headline}
 
@@ -28,5 +28,5 @@ deadline_slept_over_holds = refl
 deadline_and_idle_cache_holds : headline (honest deadline_and_idle_cache) ≡ true
 deadline_and_idle_cache_holds = refl
 
-held_link_holds : headline (honest link_held_up) ≡ true
-held_link_holds = refl
+one_hold_holds : headline (honest one_hold) ≡ true
+one_hold_holds = refl

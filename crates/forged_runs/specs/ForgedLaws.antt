@@ -3,7 +3,7 @@ use Rattle.std.specs.Prelude.{[], map, true, ◌++◌, ◌-◌, ◌∷◌}
 use Rattle.ignite_types.specs.declared.journal.Journal.{Journal}
 use Rattle.ignite_types.specs.declared.placement.PartMap.{PartMap}
 use Rattle.ignite_types.specs.declared.scenario.Scenario.{Scenario}
-use Rattle.forged_runs.specs.Forgeries.{frees_first, owned_by, put_and_get, put_at_two, rolled_back_before_join, two_wait}
+use Rattle.forged_runs.specs.Forgeries.{frees_first, owned_by_node, put_and_get, put_at_two, rolled_back_before_join, two_wait}
 use Rattle.forged_runs.specs.Forging.{Forgery, forged, forged_at, honest}
 use Rattle.machine_runs.specs.Words.{from_moment, join, numbered_node, numbered_server, plain_key, put_item, scenario, session_on, tx, version}
 use Rattle.ignite_types.specs.declared.answer.Answer.TheVariants as answer
@@ -26,7 +26,7 @@ find_without_answer = forged finds_nothing put_and_get
 
 -- the coordinator sends another map than it has installed
 abbrev pub sends_other_map : Forgery
-sends_other_map (note.Sent to (msg.Full m)) = note.Sent to (msg.Full (record m { rows = map (owned_by 3) m.rows })) ∷ []
+sends_other_map (note.Sent to (msg.Full m)) = note.Sent to (msg.Full (record m { rows = map (owned_by_node 3) m.rows })) ∷ []
 sends_other_map r = r ∷ []
 
 abbrev pub other_map_sent : Journal

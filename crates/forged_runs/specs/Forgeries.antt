@@ -80,8 +80,8 @@ deadline_and_idle_cache = with_idle_cache (scenario 1 0 (numbered_server 1 ∷ [
     (session_on "A" 1 (begin_within 2 ∷ put_item "a" "1" ∷ sleep 5 ∷ get_idle "b" ∷ []) ∷ []))
 
 -- a link is held
-abbrev pub link_held_up : Scenario
-link_held_up = scenario 1 0 (numbered_server 1 ∷ numbered_server 2 ∷ []) (from_moment 1 (hold 1 2) ∷ []) []
+abbrev pub one_hold : Scenario
+one_hold = scenario 1 0 (numbered_server 1 ∷ numbered_server 2 ∷ []) (from_moment 1 (hold 1 2) ∷ []) []
 
 -- The forgeries.
 
@@ -189,11 +189,11 @@ abbrev pub message_twice : Journal
 message_twice = forged comes_twice put_and_get
 
 -- the new map gives all partitions to the client
-abbrev pub owned_by : ℕ → Row → Row
-owned_by number row = record { owners = numbered_node number ∷ []; movers = [] }
+abbrev pub owned_by_node : ℕ → Row → Row
+owned_by_node number row = record { owners = numbered_node number ∷ []; movers = [] }
 
 abbrev pub gives_to_client : Forgery
-gives_to_client (note.Install m) = note.Install (record m { rows = map (owned_by 3) m.rows }) ∷ []
+gives_to_client (note.Install m) = note.Install (record m { rows = map (owned_by_node 3) m.rows }) ∷ []
 gives_to_client r = r ∷ []
 
 abbrev pub wrong_owners : Journal
@@ -257,4 +257,4 @@ refuses_hold (note.Planned place None) = note.Planned place (Some refusal.NotIn)
 refuses_hold r = r ∷ []
 
 abbrev pub hold_refused : Journal
-hold_refused = forged refuses_hold link_held_up
+hold_refused = forged refuses_hold one_hold

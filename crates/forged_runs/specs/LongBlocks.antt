@@ -1,5 +1,6 @@
 -- Forgeries of runs in which a transaction touches as many keys as it may, and then one more.
 use Rattle.std.specs.Prelude.{[], codes, false, if◌then◌else◌, nat_eq, suc, zero, ℕ, ◌*◌, ◌+◌, ◌++◌, ◌∷◌}
+use Rattle.ignite_types.specs.declared.answer.Fault.{Fault}
 use Rattle.ignite_types.specs.declared.journal.Journal.{Journal}
 use Rattle.ignite_types.specs.declared.list.List.{List}
 use Rattle.ignite_types.specs.declared.scenario.Item.{Item}
@@ -27,12 +28,12 @@ abbrev pub begin_optimistic_within : ℕ → Item
 begin_optimistic_within moments = item.Plain (command.Begin mode.Optimistic moments)
 
 -- as many keys as a transaction may have; then the session sleeps, and puts one key more, of the second partition
-abbrev pub one_key_more : ℕ → List Item
-one_key_more moments = begin_optimistic_within moments ∷ puts_of_even most_keys ++ sleep 5 ∷ put_byte 1 ∷ []
+abbrev pub block_and_one_more : ℕ → List Item
+block_and_one_more moments = begin_optimistic_within moments ∷ puts_of_even most_keys ++ sleep 5 ∷ put_byte 1 ∷ []
 
 -- the deadline passes while it sleeps
 abbrev pub deadline_and_one_more : Scenario
-deadline_and_one_more = scenario 2 0 (numbered_server 1 ∷ []) [] (session_on "A" 1 (one_key_more 2) ∷ [])
+deadline_and_one_more = scenario 2 0 (numbered_server 1 ∷ []) [] (session_on "A" 1 (block_and_one_more 2) ∷ [])
 
 -- the untold timeout is passed over
 abbrev pub answers_too_many : Forgery
@@ -45,7 +46,7 @@ too_many_for_fault = forged answers_too_many deadline_and_one_more
 -- the primary of the key that is one too many is lost while it sleeps
 abbrev pub loss_and_one_more : Scenario
 loss_and_one_more = scenario 2 1 (numbered_server 1 ∷ numbered_server 4 ∷ []) (from_moment 1 (lose 4) ∷ [])
-    (session_on "A" 1 (one_key_more 0) ∷ [])
+    (session_on "A" 1 (block_and_one_more 0) ∷ [])
 
 abbrev pub byte_of : List ℕ → ℕ
 byte_of (byte ∷ []) = byte

@@ -55,26 +55,26 @@ round_over tx round (r ∷ rs) = round_over tx (round_after tx round r) rs
 abbrev pub last_round : TxId → List Rec → ℕ
 last_round tx search = round_over tx 0 search
 
-abbrev pub edges_asked_by : TxId → ℕ → Rec → List NodeId
-edges_asked_by tx round (note.Sent to (msg.Edges u number of)) = if same_tx u tx && nat_eq number round then to ∷ [] else []
-edges_asked_by tx round r = []
+abbrev pub asked_in_rec : TxId → ℕ → Rec → List NodeId
+asked_in_rec tx round (note.Sent to (msg.Edges u number of)) = if same_tx u tx && nat_eq number round then to ∷ [] else []
+asked_in_rec tx round r = []
 
 -- the nodes that were asked in a round
 abbrev pub asked_in : TxId → ℕ → List Rec → List NodeId
-asked_in tx round search = flat_map (edges_asked_by tx round) search
+asked_in tx round search = flat_map (asked_in_rec tx round) search
 
 abbrev pub is_answer_of : TxId → ℕ → NodeId → Rec → Bool
 is_answer_of tx round id (note.Deliver from (msg.EdgesOk u number act waits)) =
     same_node from id && same_tx u tx && nat_eq number round
 is_answer_of tx round id r = false
 
-abbrev pub waits_of_record : TxId → Rec → List Wait
-waits_of_record tx (note.Deliver from (msg.EdgesOk u number act waits)) = if same_tx u tx then waits else []
-waits_of_record tx r = []
+abbrev pub waits_in_rec : TxId → Rec → List Wait
+waits_in_rec tx (note.Deliver from (msg.EdgesOk u number act waits)) = if same_tx u tx then waits else []
+waits_in_rec tx r = []
 
 -- all waits that the answers brought
 abbrev pub waits_brought : TxId → List Rec → List Wait
-waits_brought tx search = flat_map (waits_of_record tx) search
+waits_brought tx search = flat_map (waits_in_rec tx) search
 
 abbrev pub names_known : List TxId → Wait → Bool
 names_known known w = list_any (same_tx w.waiter) known && list_any (same_tx w.holder) known

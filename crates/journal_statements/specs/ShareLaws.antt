@@ -176,13 +176,13 @@ abbrev pub shares_fit : Scenario → Shared → Bool
 shares_fit scenario s = let held = held_in s.world in
     shares_below_maps (maps_installed scenario s.recs) held && drops_over s.drops held && forgotten_over s.forgotten held
 
-abbrev pub shares_noted_from : Scenario → Homes → List PartMap → Shared → List Group → Bool
-shares_noted_from scenario homes maps s [] = true
-shares_noted_from scenario homes maps s (g ∷ gs) =
+abbrev pub share_laws_from : Scenario → Homes → List PartMap → Shared → List Group → Bool
+share_laws_from scenario homes maps s [] = true
+share_laws_from scenario homes maps s (g ∷ gs) =
     let now = shared_after s maps (outcome s.world g.event).world (noted_in scenario homes g) in
-    list_all (commit_ready s.world s.recs) g.recs && shares_fit scenario now && shares_noted_from scenario homes maps now gs
+    list_all (commit_ready s.world s.recs) g.recs && shares_fit scenario now && share_laws_from scenario homes maps now gs
 
 abbrev pub share_laws : Journal → Bool
-share_laws j = shares_noted_from j.scenario (session_nodes_from 1 [] j.scenario.sessions)
+share_laws j = share_laws_from j.scenario (session_nodes_from 1 [] j.scenario.sessions)
     (maps_installed j.scenario (noted j.scenario j.groups))
     (record { world = opening j.scenario; recs = []; drops = []; forgotten = [] }) j.groups

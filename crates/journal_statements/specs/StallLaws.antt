@@ -17,6 +17,8 @@ use Rattle.ignite_types.specs.declared.scenario.Scenario.{Scenario}
 use Rattle.ignite_types.specs.declared.scenario.Session.{Session}
 use Rattle.ignite_types.specs.declared.message.Wait.{Wait}
 use Rattle.tx_model.specs.History.{Walk}
+use Rattle.tx_model.specs.declared.outlook.Standing.{Standing}
+use Rattle.tx_model.specs.Outlooks.{outlook_of}
 use Rattle.tx_model.specs.Opening.{declared_nodes, ids_of, session_nodes_from}
 use Rattle.journal_statements.specs.LinkRecords.{any_link_keeps}
 use Rattle.journal_statements.specs.Noted.{Noted, is_lost, noted, recs_of}
@@ -29,6 +31,7 @@ use Rattle.ignite_types.specs.declared.message.Message.TheVariants as msg
 use Rattle.ignite_types.specs.declared.journal.Rec.TheVariants as note
 use Rattle.ignite_types.specs.declared.scenario.Command.TheVariants as command
 use Rattle.ignite_types.specs.declared.scenario.Item.TheVariants as item
+use Rattle.tx_model.specs.declared.outlook.Standing.TheVariants as standing
 
 -- Stalled runs.
 
@@ -74,6 +77,15 @@ abbrev pub stalls_explained : Journal → Bool
 stalls_explained j = let recs = noted j.scenario j.groups in not (is_stalled_end j.end)
     || list_all (λ (home : ℕ × NodeId). not (is_waiting_session recs home) || has_reason j recs home)
     (session_nodes_from 1 [] j.scenario.sessions)
+
+-- what is told of a session names what it waits for
+abbrev pub names_reason : Standing → Bool
+names_reason standing.Busy = false
+names_reason s = true
+
+-- so each line that is told of a session at a stalled end names it
+abbrev pub stalls_named : Journal → Bool
+stalls_named j = not (is_stalled_end j.end) || list_all names_reason (outlook_of j).standings
 
 -- The number of events.
 
@@ -125,4 +137,4 @@ versions_grow j = let recs = noted j.scenario j.groups in
     list_all (λ (id : NodeId). all_grow (versions_drawn id (recs_of id recs))) (ids_of j.scenario)
 
 abbrev pub run_end_laws : Journal → Bool
-run_end_laws j = stalls_explained j && events_bounded j && versions_grow j
+run_end_laws j = stalls_explained j && stalls_named j && events_bounded j && versions_grow j
