@@ -64,7 +64,7 @@ fn prints_parts(rt: HostRuntime) -> Result<(), Fail> {
     let alloc = rt.alloc();
     let scenario = scenario(alloc)?;
     let mut out = TextOut::new(alloc);
-    write_key(&mut out, &scenario, &Key::read(b"a:b")?)?;
+    write_key(&mut out, &scenario, &Key::read(b"a.b")?)?;
     out.byte(b' ')?;
     write_step(&mut out, &scenario, &Step::Lose(NodeId(1)))?;
     out.text(", ")?;
@@ -77,7 +77,7 @@ fn prints_parts(rt: HostRuntime) -> Result<(), Fail> {
     out.number(u64::MAX)?;
     out.byte(b' ')?;
     out.integer(i64::MIN)?;
-    let bytes = b"a:b lose 1, add n -5; 18446744073709551615 -9223372036854775808";
+    let bytes = b"a.b lose 1, add n -5; 18446744073709551615 -9223372036854775808";
     assert_eq!(rt; out.into_vec().as_slice(), bytes.as_slice());
     Ok(())
 }
