@@ -33,7 +33,8 @@ first_wrong_read m (r ∷ rs) = if equal_values (at bytes_cmp m r.0) r.1 then fi
 
 -- the first key at which one of two maps has nothing or another value than the other
 abbrev pub unequal_key : Bytes × Bytes → KeyChange → Option Bytes → Option Bytes
-unequal_key e c rest = match_ordering (bytes_cmp e.0 c.0) (Some e.0) (if equal_values (Some e.1) c.1 then rest else Some e.0) (Some c.0)
+unequal_key e c rest =
+    match_ordering (bytes_cmp e.0 c.0) (Some e.0) (if equal_values (Some e.1) c.1 then rest else Some e.0) (Some c.0)
 
 abbrev pub least_difference : PlainEntries → List KeyChange → Option Bytes
 least_difference [] [] = None

@@ -15,7 +15,8 @@ use Rattle.ignite_types.specs.declared.names.TxId.{TxId}
 use Rattle.ignite_types.specs.declared.scenario.Command.{Command}
 use Rattle.ignite_types.specs.declared.text.Key.{Key}
 use Rattle.ordered_table.specs.Entries.{at}
-use Rattle.tx_model.specs.History.{Walk, fresh_walk, is_bare, near_read_at, walk_after_answer, walk_after_call, walk_with_find, with_near_read, with_near_read_if_started}
+use Rattle.tx_model.specs.History.{fresh_walk, is_bare, near_read_at, walk_after_answer, walk_after_call, walk_with_find, with_near_read, with_near_read_if_started}
+use Rattle.tx_model.specs.declared.walk.Walk.{Walk}
 
 -- what a near cache that was told this knows of a command's key
 abbrev pub near_read_in : List (Key × Found) → Option Key → Found

@@ -12,7 +12,8 @@ use Rattle.ignite_types.specs.declared.scenario.Command.{Command}
 use Rattle.ignite_types.specs.declared.scenario.Mode.{Mode}
 use Rattle.ignite_types.specs.declared.text.Key.{Key}
 use Rattle.ordered_table.specs.Entries.{at}
-use Rattle.tx_model.specs.History.{Walk, is_done, known_value, walk_after_answer, walk_after_counted_access, walk_after_done_access, walk_after_told_fault, walk_with_add, walk_with_first_read, walk_with_read, walk_with_sum, walk_without_call}
+use Rattle.tx_model.specs.History.{is_done, known_value, walk_after_answer, walk_after_counted_access, walk_after_done_access, walk_after_told_fault, walk_with_add, walk_with_first_read, walk_with_read, walk_with_sum, walk_without_call}
+use Rattle.tx_model.specs.declared.walk.Walk.{Walk}
 use Rattle.ignite_types.specs.declared.answer.Answer.TheVariants as answer
 use Rattle.ignite_types.specs.declared.scenario.Command.TheVariants as command
 

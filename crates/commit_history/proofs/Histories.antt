@@ -27,7 +27,8 @@ use Rattle.ignite_types.specs.declared.text.Key.{Key}
 use Rattle.ordered_set.specs.Members.{with_member}
 use Rattle.ordered_table.specs.Entries.{at, put}
 use Rattle.tx_model.specs.History as history
-use Rattle.tx_model.specs.History.{Walk, commits_from, commits_next, committed_in, entry_from, footprint, fresh_walk, records, taker_of, walk_after_done_access, walk_with_open_call}
+use Rattle.tx_model.specs.History.{commits_from, commits_next, committed_in, entry_from, footprint, fresh_walk, records, taker_of, walk_after_done_access, walk_with_open_call}
+use Rattle.tx_model.specs.declared.walk.Walk.{Walk}
 
 recs_follow : (m : Walks) (tx : TxId) (w : Walk) (to : Option NodeId) (rs : List Rec) → Follows m tx w → Follows (steps.walks_after_records m to rs) tx (history.walk_after_records tx to w rs)
 recs_follow m tx w to [] f = f

@@ -27,7 +27,8 @@ use Rattle.ignite_types.specs.declared.text.Key.{Key}
 use Rattle.ordered_set.specs.Members.{with_member}
 use Rattle.ordered_table.specs.Entries.{at, put}
 use Rattle.tx_model.specs.History as history
-use Rattle.tx_model.specs.History.{Walk, walk_after_answer, walk_after_record, walk_with_closed, walk_with_find, walk_with_near, with_near_read}
+use Rattle.tx_model.specs.History.{walk_after_answer, walk_after_record, walk_with_closed, walk_with_find, walk_with_near, with_near_read}
+use Rattle.tx_model.specs.declared.walk.Walk.{Walk}
 use Rattle.ignite_types.specs.declared.journal.Rec.TheVariants as note
 use Rattle.ignite_types.specs.declared.message.Message.TheVariants as msg
 

@@ -14,7 +14,8 @@ use Rattle.ignite_types.specs.declared.names.TxId.{TxId}
 use Rattle.ignite_types.specs.declared.text.Key.{Key}
 use Rattle.ordered_table.proofs.Laws as laws
 use Rattle.ordered_table.specs.Entries.{at, put}
-use Rattle.tx_model.specs.History.{Walk, fresh_walk}
+use Rattle.tx_model.specs.History.{fresh_walk}
+use Rattle.tx_model.specs.declared.walk.Walk.{Walk}
 
 pub walk_put : (m : Walks) (tx : TxId) (w : Walk) → walk_of (with_walk m tx w) tx ≡ w
 walk_put m tx w = ap (λ (r : Option Walk). unwrap_or r fresh_walk) (laws.at_put_same tx_cmp tx_total m.walks tx w)

@@ -1,6 +1,6 @@
 -- What it means that a transaction's own walk is found in the one walk for all.
 use Rattle.std.specs.Prelude.{◌≡◌, ◌<◌, ◌≤◌, None, Some, ◌^◌, ◌-◌, ℕ}
-use Rattle.tx_model.specs.History.{Walk}
+use Rattle.tx_model.specs.declared.walk.Walk.{Walk}
 use Rattle.part_model.specs.Copies.{Found}
 use Rattle.part_model.specs.Tables.{keys_in}
 use Rattle.commit_history.specs.Steps.{near_told_of, session_line_of, walk_of}

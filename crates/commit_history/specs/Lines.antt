@@ -4,7 +4,8 @@ use Rattle.ignite_types.specs.declared.names.NodeId.{NodeId}
 use Rattle.ignite_types.specs.declared.names.TxId.{TxId}
 use Rattle.ignite_types.specs.declared.scenario.Command.{Command}
 use Rattle.commit_history.specs.declared.line.Line.{Line}
-use Rattle.tx_model.specs.History.{Walk, fresh_walk, walk_after_call}
+use Rattle.tx_model.specs.History.{fresh_walk, walk_after_call}
+use Rattle.tx_model.specs.declared.walk.Walk.{Walk}
 
 abbrev pub new_line : NodeId → Line
 new_line node = record { node = node; started = 0; block = false; skipping = false; called = None }

@@ -21,7 +21,8 @@ use Rattle.ignite_types.specs.declared.scenario.Session.{Session}
 use Rattle.ignite_types.specs.declared.text.Key.{Key}
 use Rattle.ordered_table.specs.Entries.{at, put}
 use Rattle.tx_model.specs.Opening.{session_nodes_from}
-use Rattle.tx_model.specs.History.{Walk, entry_from, footprint, found_after_update, fresh_walk, taker_of, walk_after_answer, walk_with_find, walk_with_open_call}
+use Rattle.tx_model.specs.History.{entry_from, footprint, found_after_update, fresh_walk, taker_of, walk_after_answer, walk_with_find, walk_with_open_call}
+use Rattle.tx_model.specs.declared.walk.Walk.{Walk}
 use Rattle.tx_model.specs.declared.history.CommitEntry.{CommitEntry}
 use Rattle.ignite_types.specs.declared.journal.Rec.TheVariants as note
 use Rattle.ignite_types.specs.declared.message.Message.TheVariants as msg

@@ -1,6 +1,6 @@
 -- What it means that a walk, or what a near cache was told, was taken out to be put back changed.
 use Rattle.std.specs.Prelude.{◌≡◌, List}
-use Rattle.tx_model.specs.History.{Walk}
+use Rattle.tx_model.specs.declared.walk.Walk.{Walk}
 use Rattle.part_model.specs.Copies.{Found}
 use Rattle.commit_history.specs.declared.walks.Walks.{Walks}
 use Rattle.ignite_types.specs.Names.{node_cmp, tx_cmp}

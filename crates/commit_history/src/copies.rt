@@ -2,10 +2,10 @@
 
 ghost use Rattle.std.specs.Prelude.{◌≡◌, IfOk};
 
-use crate::walk::Walk;
 use ignite_types::{Key, Mem};
 use ordered_table::Table;
 use std::alloc::Global;
+use tx_model::Walk;
 
 /// The same table once more.
 fn table_copied<V: Copy>(alloc: Global, table: &Table<Key, V>) -> Mem<Table<Key, V>>

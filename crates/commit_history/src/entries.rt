@@ -5,13 +5,12 @@ ghost use Rattle.tx_model.specs.History.{commits_of, records};
 ghost use Rattle.commit_history.specs.Firsts.{firsts};
 ghost use Rattle.commit_history.specs.Steps.{entry_of_walks};
 
-use crate::footprints::committed;
 use crate::walks::{Walks, nodes_of};
 use hash_table::HashTable;
 use ignite_types::{Group, Journal, List, Mem, NodeId, TxId};
 use ordered_table::Table;
 use std::alloc::Global;
-use tx_model::CommitEntry;
+use tx_model::{CommitEntry, committed};
 
 /// The committed transactions in the order of their first commit decisions.
 fn firsts(alloc: Global, groups: &[Group]) -> Mem<List<TxId>>

@@ -3,13 +3,10 @@
 
 mod copies;
 mod entries;
-mod footprints;
 mod line;
-mod walk;
 mod walks;
 
 pub use entries::commits;
-pub use footprints::{footprint, serial};
 
 #[cfg(test)]
 mod tests;

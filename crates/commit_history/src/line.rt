@@ -3,8 +3,8 @@
 ghost use Rattle.std.specs.Prelude.{◌≡◌};
 ghost use Rattle.commit_history.specs.Lines.{line_after, line_after_call, new_line, tx_of_line, walk_at_line};
 
-use crate::walk::{Walk, access_key};
 use ignite_types::{Command, NodeId, TxId};
+use tx_model::{Walk, access_key};
 
 /// A session: its node, how many transactions it has started, whether its block is open or skipped, and its command that is
 /// not answered yet.

@@ -9,16 +9,14 @@ ghost use Rattle.commit_history.specs.Steps as steps;
 ghost use Rattle.commit_history.specs.Taking.{TakesNear, TakesWalk};
 
 use crate::copies::copied;
-use crate::footprints::{entry_of, footprint};
 use crate::line::Line;
-use crate::walk::{Walk, access_key, newly_found, taker_of};
 use hash_table::HashTable;
 use ignite_types::{
     Answer, Command, Found, Group, Journal, Key, Mem, Message, NodeId, Rec, Session, TopVer, TxId,
 };
 use ordered_table::Table;
 use std::alloc::Global;
-use tx_model::CommitEntry;
+use tx_model::{CommitEntry, Walk, access_key, entry_of, footprint, newly_found, taker_of};
 
 /// What is known after some records: of each session, of each node's near cache, of each transaction, and which ones are
 /// decided or have a fault. Each record is counted in constant time on average.

@@ -106,7 +106,8 @@ abbrev pub two_puts : Scenario
 two_puts = scenario 1 0 (numbered_server 1 ∷ []) [] (session_on "A" 1 (put_item "a" "1" ∷ put_item "a" "2" ∷ []) ∷ [])
 
 abbrev pub turns_orders : Forgery
-turns_orders (note.Apply t top primary key new ver) = note.Apply t top primary key new (record ver { order = 9 - ver.order }) ∷ []
+turns_orders (note.Apply t top primary key new ver) =
+    note.Apply t top primary key new (record ver { order = 9 - ver.order }) ∷ []
 turns_orders r = r ∷ []
 
 abbrev pub versions_shrink : Journal

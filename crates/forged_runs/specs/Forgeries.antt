@@ -139,7 +139,8 @@ opened_too_early = forged stays_undecided rolled_back_before_join
 
 -- the lock is free as soon as the commit comes, and the write is applied after that
 abbrev pub frees_first : Forgery
-frees_first (note.Deliver from (msg.Finish t commit)) = note.Deliver from (msg.Finish t commit) ∷ note.Drop t (plain_key "a") ∷ []
+frees_first (note.Deliver from (msg.Finish t commit)) =
+    note.Deliver from (msg.Finish t commit) ∷ note.Drop t (plain_key "a") ∷ []
 frees_first r = r ∷ []
 
 abbrev pub lock_free_too_early : Journal
@@ -182,7 +183,8 @@ false_deadlock = forged reports_too_early two_wait
 
 -- a message comes twice
 abbrev pub comes_twice : Forgery
-comes_twice (note.Deliver from (msg.Prepared t)) = note.Deliver from (msg.Prepared t) ∷ note.Deliver from (msg.Prepared t) ∷ []
+comes_twice (note.Deliver from (msg.Prepared t)) =
+    note.Deliver from (msg.Prepared t) ∷ note.Deliver from (msg.Prepared t) ∷ []
 comes_twice r = r ∷ []
 
 abbrev pub message_twice : Journal

@@ -11,7 +11,8 @@ use Rattle.ignite_types.specs.declared.names.TxId.{TxId}
 use Rattle.ignite_types.specs.declared.placement.PartMap.{PartMap}
 use Rattle.ignite_types.specs.declared.scenario.Command.{Command}
 use Rattle.ignite_types.specs.declared.text.Key.{Key}
-use Rattle.tx_model.specs.History.{Walk, is_access, is_called}
+use Rattle.tx_model.specs.History.{is_access, is_called}
+use Rattle.tx_model.specs.declared.walk.Walk.{Walk}
 use Rattle.journal_statements.specs.Noted.{Noted}
 use Rattle.journal_statements.specs.SameMessages.{same_fail}
 use Rattle.journal_statements.specs.Timeouts.{is_past_most, runs_in}

@@ -11,7 +11,8 @@ use Rattle.ignite_types.specs.declared.list.List.{List}
 use Rattle.ignite_types.specs.declared.names.TxId.{TxId}
 use Rattle.ignite_types.specs.declared.placement.PartMap.{PartMap}
 use Rattle.ignite_types.specs.declared.scenario.Command.{Command}
-use Rattle.tx_model.specs.History.{Walk, is_access, is_bare}
+use Rattle.tx_model.specs.History.{is_access, is_bare}
+use Rattle.tx_model.specs.declared.walk.Walk.{Walk}
 use Rattle.journal_statements.specs.AnswersDue.{refusal_due, same_fault, same_refused, untold_fault}
 use Rattle.journal_statements.specs.Faults.{faults_fit}
 use Rattle.journal_statements.specs.Noted.{Noted, maps_installed, noted}

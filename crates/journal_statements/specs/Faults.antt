@@ -2,7 +2,7 @@
 use Rattle.std.specs.List.{flat_map, list_any}
 use Rattle.std.specs.Option.{option_and_then}
 use Rattle.std.specs.Prelude.{Bool, None, Option, Some, [], false, filter, if◌then◌else◌, not, option_to_list, true, ◌&&◌, ◌++◌, ◌||◌, ◌∷◌}
-use Rattle.tx_model.specs.History.{Walk}
+use Rattle.tx_model.specs.declared.walk.Walk.{Walk}
 use Rattle.act_rows.specs.Accesses.{access_key}
 use Rattle.act_rows.specs.Stores.{version_of}
 use Rattle.part_model.specs.Copies.{Found, found_in}

@@ -10,7 +10,8 @@ use Rattle.ignite_types.specs.declared.names.TxId.{TxId}
 use Rattle.ignite_types.specs.declared.scenario.Command.{Command}
 use Rattle.ignite_types.specs.declared.text.Key.{Key}
 use Rattle.ordered_table.specs.Entries.{at}
-use Rattle.tx_model.specs.History.{Walk, find_of, found_after_update, is_done}
+use Rattle.tx_model.specs.History.{find_of, found_after_update, is_done}
+use Rattle.tx_model.specs.declared.walk.Walk.{Walk}
 use Rattle.journal_statements.specs.AnswersDue.{is_taking_up}
 use Rattle.journal_statements.specs.Noted.{Noted, recs_of}
 use Rattle.journal_statements.specs.SameMessages.{same_found}

@@ -153,7 +153,8 @@ forgotten_by w earlier held = map (λ (h : HeldAt). h.tx)
     (filter (λ (h : HeldAt). is_share_committed h.state && is_live_in w h.holder && not (is_still_held held h)) earlier)
 
 abbrev pub forgotten_over : List TxId → List HeldAt → Bool
-forgotten_over forgotten held = list_all (λ (h : HeldAt). not (is_open_share h) || not (list_any (same_tx h.tx) forgotten)) held
+forgotten_over forgotten held =
+    list_all (λ (h : HeldAt). not (is_open_share h) || not (list_any (same_tx h.tx) forgotten)) held
 
 -- After every group.
 

@@ -16,7 +16,7 @@ use Rattle.ignite_types.specs.declared.scenario.Item.{Item}
 use Rattle.ignite_types.specs.declared.scenario.Scenario.{Scenario}
 use Rattle.ignite_types.specs.declared.scenario.Session.{Session}
 use Rattle.ignite_types.specs.declared.message.Wait.{Wait}
-use Rattle.tx_model.specs.History.{Walk}
+use Rattle.tx_model.specs.declared.walk.Walk.{Walk}
 use Rattle.tx_model.specs.declared.outlook.Standing.{Standing}
 use Rattle.tx_model.specs.Outlooks.{outlook_of}
 use Rattle.tx_model.specs.Opening.{declared_nodes, ids_of, session_nodes_from}

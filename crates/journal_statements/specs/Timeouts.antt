@@ -16,7 +16,8 @@ use Rattle.ignite_types.specs.declared.scenario.Mode.{Mode}
 use Rattle.ignite_types.specs.declared.text.Key.{Key}
 use Rattle.ordered_set.specs.Members.{has, with_member}
 use Rattle.ordered_table.specs.Entries.{at}
-use Rattle.tx_model.specs.History.{Walk, fresh_walk, is_called}
+use Rattle.tx_model.specs.History.{fresh_walk, is_called}
+use Rattle.tx_model.specs.declared.walk.Walk.{Walk}
 use Rattle.journal_statements.specs.Noted.{Noted, map_of_version}
 use Rattle.journal_statements.specs.Versions.{is_decided}
 use Rattle.journal_statements.specs.Waits.{is_expire_of}

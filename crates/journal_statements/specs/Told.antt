@@ -13,7 +13,8 @@ use Rattle.ignite_types.specs.declared.list.List.{List}
 use Rattle.ignite_types.specs.declared.names.NodeId.{NodeId}
 use Rattle.ignite_types.specs.declared.names.TxId.{TxId}
 use Rattle.ignite_types.specs.declared.scenario.Command.{Command}
-use Rattle.tx_model.specs.History.{Walk, is_access, is_bare, is_done, known_value}
+use Rattle.tx_model.specs.History.{is_access, is_bare, is_done, known_value}
+use Rattle.tx_model.specs.declared.walk.Walk.{Walk}
 use Rattle.journal_statements.specs.Noted.{Noted, is_committed_before, noted}
 use Rattle.journal_statements.specs.Walks.{Answered, each_answer, with_command}
 use Rattle.ignite_types.specs.declared.answer.Answer.TheVariants as answer

@@ -10,7 +10,8 @@ use Rattle.ignite_types.specs.declared.list.List.{List}
 use Rattle.ignite_types.specs.declared.names.NodeId.{NodeId}
 use Rattle.ignite_types.specs.declared.names.TxId.{TxId}
 use Rattle.ignite_types.specs.declared.scenario.Command.{Command}
-use Rattle.tx_model.specs.History.{Walk, fresh_walk, is_called, walk_after_groups, walk_after_record}
+use Rattle.tx_model.specs.History.{fresh_walk, is_called, walk_after_groups, walk_after_record}
+use Rattle.tx_model.specs.declared.walk.Walk.{Walk}
 use Rattle.journal_statements.specs.Noted.{Noted, noted}
 use Rattle.tx_model.specs.Opening.{session_nodes_from}
 use Rattle.ignite_types.specs.declared.journal.Rec.TheVariants as note

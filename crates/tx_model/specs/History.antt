@@ -26,6 +26,7 @@ use Rattle.ordered_set.specs.Members.{has, with_member}
 use Rattle.ordered_table.specs.Entries.{at, put, without}
 use Rattle.tx_model.specs.declared.history.BadRead.{BadRead}
 use Rattle.tx_model.specs.declared.history.CommitEntry.{CommitEntry}
+use Rattle.tx_model.specs.declared.walk.Walk.{Walk}
 use Rattle.ignite_types.specs.declared.answer.Answer.TheVariants as answer
 use Rattle.ignite_types.specs.declared.scenario.Command.TheVariants as command
 use Rattle.ignite_types.specs.declared.journal.Event.TheVariants as event
@@ -50,31 +51,6 @@ is_done answer.Absent = true
 is_done answer.NotNumber = true
 is_done answer.Overflow = true
 is_done _ = false
-
--- What a walk over the records knows of one transaction.
-pub record Walk : Type 0 where
-  -- the transaction's version, once it has started
-  pub top : Option TopVer
-  -- how many transactions its session has started
-  pub started : ℕ
-  -- whether the session's block is open
-  pub block : Bool
-  -- whether the block's fault was told, and its accesses are skipped
-  pub skipping : Bool
-  -- the session's command that is not answered yet
-  pub called : Option Command
-  -- what the near cache knew of that command's key at its act
-  pub near_read : Found
-  -- what was first found for it at each key
-  pub finds : List (Key × Found)
-  -- what its starter's near cache was last told of each key
-  pub near : List (Key × Found)
-  -- the transactions with a decision or a fault
-  pub overs : List TxId
-  -- whether it is decided for commit
-  pub committed : Bool
-  pub reads : List (Key × Option (List ℕ))
-  pub writes : List (Key × Option (List ℕ))
 
 -- before the first record
 abbrev pub fresh_walk : Walk
@@ -282,10 +258,10 @@ committed_in _ = None
 
 -- the commits from a record on, where it says this is committed; the last argument gives those of the later records
 abbrev pub commits_next : List Group → List TxId → Option TxId → (List TxId → List CommitEntry) → List CommitEntry
-commits_next all seen None moment_after = moment_after seen
-commits_next all seen (Some tx) moment_after = if has tx_cmp seen tx
-    then moment_after seen
-    else footprint all tx ∷ moment_after (with_member tx_cmp seen tx)
+commits_next all seen None rest = rest seen
+commits_next all seen (Some tx) rest = if has tx_cmp seen tx
+    then rest seen
+    else footprint all tx ∷ rest (with_member tx_cmp seen tx)
 
 abbrev pub commits_from : List Group → List TxId → List Rec → List CommitEntry
 commits_from all seen [] = []

@@ -15,7 +15,6 @@ use ordered_set::Set;
 use ordered_table::Table;
 use session_scripts::added;
 use std::alloc::Global;
-use std::marker::Model;
 
 /// A walk over a journal's records for one transaction.
 #[derive(Debug, Drop)]
@@ -42,27 +41,6 @@ pub struct Walk {
     pub committed: bool,
     pub reads: Table<Key, Option<Value>>,
     pub writes: Table<Key, Option<Value>>,
-}
-
-impl Model for Walk {
-    ghost use Rattle.tx_model.specs.History.{Walk as Known};
-
-    ghost Value = { Known };
-
-    ghost view = { λ walk. record {
-      top = walk.top;
-      started = walk.started;
-      block = walk.block;
-      skipping = walk.skipping;
-      called = walk.called;
-      near_read = walk.near_read;
-      finds = walk.finds;
-      near = walk.near;
-      overs = walk.overs;
-      committed = walk.committed;
-      reads = walk.reads;
-      writes = walk.writes;
-    } };
 }
 
 /// The key of an access.
