@@ -35,7 +35,7 @@ version major minor = record { major = major; minor = minor }
 
 -- the session's transaction with this number, on this node
 abbrev pub tx : ℕ → ℕ → ℕ → TxId
-tx on session_on number = record { node = numbered_node on; session = session_on; number = number }
+tx on session number = record { node = numbered_node on; session = session; number = number }
 
 -- Scenarios.
 
@@ -75,7 +75,7 @@ abbrev pub get : String → Item
 get text = item.Plain (command.Get (plain_key text))
 
 abbrev pub put_item : String → String → Item
-put_item text found_value = item.Plain (command.Put (plain_key text) (codes found_value))
+put_item text value = item.Plain (command.Put (plain_key text) (codes value))
 
 abbrev pub remove : String → Item
 remove text = item.Plain (command.Remove (plain_key text))
@@ -151,7 +151,7 @@ told_changed text had has = answer.Failed (fault.Check (fail.Changed
 
 -- a read or a write of a value
 abbrev pub pair_of : String → String → Key × Option (List ℕ)
-pair_of text found_value = (plain_key text, Some (codes found_value))
+pair_of text value = (plain_key text, Some (codes value))
 
 -- a read that found nothing, or a removal
 abbrev pub absent : String → Key × Option (List ℕ)
@@ -166,4 +166,4 @@ waits text waiter holder = record { key = plain_key text; waiter = waiter; holde
 
 -- a key of the map with its value
 abbrev pub map_pair : String → String → Key × List ℕ
-map_pair text found_value = (plain_key text, codes found_value)
+map_pair text value = (plain_key text, codes value)

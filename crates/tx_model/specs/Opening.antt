@@ -16,7 +16,7 @@ use Rattle.ignite_types.specs.declared.scenario.Scenario.{Scenario}
 use Rattle.ignite_types.specs.declared.scenario.Session.{Session}
 use Rattle.ignite_types.specs.declared.scenario.Step.{Step}
 use Rattle.ordered_table.specs.Entries.{put}
-use Rattle.tx_model.specs.World.{Part, World, node_ids}
+use Rattle.tx_model.specs.World.{Part, World}
 use Rattle.node_state.specs.declared.life.Life.TheVariants as life
 use Rattle.ignite_types.specs.declared.scenario.Step.TheVariants as step
 
@@ -46,11 +46,11 @@ opening_part scenario m id = let initial = is_member scenario.nodes id in
     record { node = opening_node scenario m id initial; life = if initial then life.Alive else life.Absent }
 
 abbrev pub opening_parts : Scenario → PartMap → List NodeId → List Part
-opening_parts scenario m node_ids = map (opening_part scenario m) node_ids
+opening_parts scenario m ids = map (opening_part scenario m) ids
 
 -- an empty inbox for each node
 abbrev pub opening_inboxes : List NodeId → List NodeId → List Inbox
-opening_inboxes senders node_ids = map (λ (id : NodeId). new_inbox senders) node_ids
+opening_inboxes senders ids = map (λ (id : NodeId). new_inbox senders) ids
 
 abbrev pub opening_with : Scenario → PartMap → World
 opening_with scenario m = record {

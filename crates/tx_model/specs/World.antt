@@ -11,7 +11,7 @@ use Rattle.act_rows.specs.Searches.{is_overdue, next_moment, sooner_moment, soon
 use Rattle.act_rows.specs.Steps.{session_state_of}
 use Rattle.part_model.specs.Directory.{Directory, at_moment, directory_after_join, event_at, next_step, refusal_of_loss, step_due, with_answer_given, with_event, with_step_done}
 use Rattle.part_model.specs.Links.{Inbox, inbox_after_pop, inbox_after_push, inbox_shut, is_held, oldest_in, with_hold, without_messages_of}
-use Rattle.part_model.specs.NextMap.{map_holders, newer_map}
+use Rattle.part_model.specs.NextMap.{newer_map}
 use Rattle.ignite_types.specs.Names.{same_node, same_top}
 use Rattle.ignite_types.specs.declared.journal.Event.{Event}
 use Rattle.ignite_types.specs.declared.journal.NoLoss.{NoLoss}
@@ -228,13 +228,13 @@ loss_outcome w id d None =
     plan_outcome_with (world_after_loss w id (place_of w id)) (with_event d (topo.Left id)) None (note.Lost id ∷ [])
 
 abbrev pub with_link_held : World → NodeId → Bool → Option ℕ → Option Inbox → World
-with_link_held w from map_holders (Some place) (Some inbox) = with_inbox w place (with_hold inbox from map_holders)
-with_link_held w from map_holders _ _ = w
+with_link_held w from held (Some place) (Some inbox) = with_inbox w place (with_hold inbox from held)
+with_link_held w from held _ _ = w
 
 -- the link is held from now on, or goes on
 abbrev pub with_hold_between : World → NodeId → NodeId → Bool → World
-with_hold_between w from to map_holders =
-    let place = place_of w to in with_link_held w from map_holders place (inbox_on w place)
+with_hold_between w from to held =
+    let place = place_of w to in with_link_held w from held place (inbox_on w place)
 
 abbrev pub step_outcome : World → Directory → Step → Outcome
 step_outcome w d (step.Join member) = let place = place_of w member.node in join_outcome w member d place (part_on w place)
@@ -372,7 +372,7 @@ possible_of w events = filter (can_be w) events
 -- the messages that these nodes can take, each from these senders
 abbrev pub possible_acts : World → List NodeId → List NodeId → List Event
 possible_acts w senders [] = []
-possible_acts w senders (id ∷ node_ids) = possible_of w (map (event.Act id) senders) ++ possible_acts w senders node_ids
+possible_acts w senders (id ∷ ids) = possible_of w (map (event.Act id) senders) ++ possible_acts w senders ids
 
 -- the possible events at nodes, in the order of the event table
 abbrev pub node_events : World → List Event
