@@ -77,7 +77,7 @@ made_line made = sizes_text made ++ (number_text (codes " seed ") made.seed ++ 1
 
 abbrev pub summary_told_lines : List Told → List ℕ
 summary_told_lines tolds =
-    count_line (codes "committed_count") (committed_count tolds) ++ count_line (codes "failed") (failed tolds)
+    count_line (codes "committed") (committed_count tolds) ++ count_line (codes "failed") (failed tolds)
 
 abbrev pub total_line : Map → List ℕ
 total_line m = codes "total " ++ (signed_decimal (total m) ++ 10 ∷ [])
