@@ -5,7 +5,9 @@ use Rattle.ignite_types.specs.declared.placement.PartMap.{PartMap}
 use Rattle.ignite_types.specs.declared.scenario.Scenario.{Scenario}
 use Rattle.forged_runs.specs.Forgeries.{frees_first, owned_by_node, put_and_get, put_at_two, rolled_back_before_join, two_wait}
 use Rattle.forged_runs.specs.Forging.{Forgery, forged, forged_at, honest}
+use Rattle.journal_statements.specs.ShareLaws.{HeldAt}
 use Rattle.machine_runs.specs.Words.{from_moment, join, numbered_node, numbered_server, plain_key, put_item, scenario, session_on, tx, version}
+use Rattle.ignite_types.specs.declared.placement.ShareState.TheVariants.{Prepared}
 use Rattle.ignite_types.specs.declared.answer.Answer.TheVariants as answer
 use Rattle.ignite_types.specs.declared.journal.End.TheVariants as end
 use Rattle.ignite_types.specs.declared.message.Message.TheVariants as msg
@@ -96,6 +98,22 @@ answers_nobody r = r ∷ []
 
 abbrev pub stalled_for_nothing : Journal
 stalled_for_nothing = record (forged answers_nobody put_and_get) { end = end.Stalled }
+
+-- nothing has happened yet, and the run is called stalled
+abbrev pub stalled_at_once : Journal
+stalled_at_once = record (honest put_and_get) { groups = []; end = end.Stalled }
+
+-- the backup's share is still Prepared when the primary has forgotten its own: no change of records makes a journal of this,
+-- since shares are the world's
+abbrev pub prepared_at_second : HeldAt
+prepared_at_second = record {
+  tx = tx 1 1 1;
+  holder = numbered_node 2;
+  primary = numbered_node 1;
+  top = version 1 0;
+  state = Prepared;
+  shares = [];
+}
 
 -- each event comes twice
 abbrev pub too_many_events : Journal

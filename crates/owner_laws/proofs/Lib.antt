@@ -1,0 +1,12 @@
+pub mod Flights
+pub mod Lists
+pub mod LockActs
+pub mod LockAnswers
+pub mod LockKit
+pub mod LockRows
+pub mod LockSteps
+pub mod LockViews
+pub mod OwnerEvents
+pub mod OwnerLaws
+pub mod OwnerScenes
+pub mod PrimaryRows

@@ -1,0 +1,4 @@
+pub mod LockFacts
+pub mod LockViews
+pub mod OwnerInvariant
+pub mod OwnerLaws
