@@ -1,4 +1,0 @@
-pub mod Kept
-pub mod Rooms
-pub mod Desks
-pub mod Walks

@@ -1,4 +1,0 @@
-pub mod Courses
-pub mod Desks
-pub mod Sequences
-pub mod Taking

@@ -1,14 +1,11 @@
-//! What the sessions of one node give and are given: the command that each gives next, computed from its script and its
-//! answers, and the answer that waits to be handed out.
+//! The sessions of a node: the command that each gives next, what is done with it, the answer that it is given, and the start
+//! of what waits for a topology version.
 #![tactic(auto)]
 
-mod client;
-mod course;
-mod desk;
-mod sequences;
+mod commands;
+mod sessions;
+mod starts;
 
-pub use client::Client;
-pub use desk::Desk;
-
-#[cfg(test)]
-mod tests;
+pub use commands::on_call;
+pub use sessions::{answer_at, call_at, on_answer, session_state_over};
+pub use starts::start_all;

@@ -7,3 +7,5 @@ mod Indexing
 pub mod Calls
 pub mod Members
 pub mod Gathered
+pub mod Leaving
+pub mod FirstWaits

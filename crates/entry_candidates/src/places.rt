@@ -66,7 +66,7 @@ impl Places {
     }
 
     /// The keys in whose queues the transaction stands, each with whether behind the owner.
-    fn table(&self, tx: &TxId) -> &[(Key, bool)]
+    pub fn table(&self, tx: &TxId) -> &[(Key, bool)]
         ensures value { result.now ≡ table_of self.now tx.now }
         ensures ascending { IsAscending key_cmp result.now }
     {

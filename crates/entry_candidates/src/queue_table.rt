@@ -1,6 +1,6 @@
 //! The queues alone, by key.
 
-ghost use Rattle.std.specs.Prelude.{◌≡◌, ◌++◌, [], IfOk, IsSome, MatchOption, OnErr, OnOk, take, drop};
+ghost use Rattle.std.specs.Prelude.{◌≡◌, ◌++◌, [], IfOk, IsSome, MatchOption, OnErr, OnOk, length, slice_get, take, drop, ◌∷◌};
 ghost use Rattle.part_model.specs.Queues.{Queues, is_queued, lists_of, other_owner, owner_in, queue_in, queue_without, queues_with, queues_without, waits_behind, waits_in, with_queue_in};
 ghost use Rattle.ignite_types.specs.Names.{key_cmp};
 ghost use Rattle.ordered_table.specs.Entries.{at};
@@ -82,6 +82,32 @@ fn add_waits(waits: &mut List<Wait>, key: &Key, of: &[TxId], queue: &[TxId]) -> 
     }
 }
 
+/// The transaction's wait for the owner, where it is one of those that wait.
+#[tactic(auto, using(crate::proofs::FirstWaits::first_behind, crate::proofs::FirstWaits::none_behind))]
+fn wait_behind(tx: &TxId, key: &Key, owner: &TxId, waiters: &[TxId]) -> Option<Wait>
+    ensures { result ≡ slice_get (waits_behind key.now owner.now (tx.now ∷ []) waiters.now) 0 }
+{
+    if stands_in(tx, waiters) {
+        Some(Wait {
+            key: *key,
+            waiter: *tx,
+            holder: *owner,
+        })
+    } else {
+        None
+    }
+}
+
+/// The transaction's wait in a key's queue.
+fn wait_in(tx: &TxId, key: &Key, queue: &[TxId]) -> Option<Wait>
+    ensures { result ≡ slice_get (waits_in key.now (tx.now ∷ []) queue.now) 0 }
+{
+    match queue {
+        [] => None,
+        [owner, waiters @ ..] => wait_behind(tx, key, owner, waiters),
+    }
+}
+
 impl QueueTable {
     pub fn new(alloc: Global) -> QueueTable
         ensures { result ≡ [] }
@@ -100,6 +126,13 @@ impl QueueTable {
             Some(queue) => queue.as_slice(),
             None => &[],
         }
+    }
+
+    /// How many keys are held.
+    pub fn len(&self) -> usize
+        ensures { result ≡ length self.now }
+    {
+        self.queues.len()
     }
 
     pub fn owner(&self, key: &Key) -> Option<TxId>
@@ -154,6 +187,13 @@ impl QueueTable {
             [] => false,
             [_, waiters @ ..] => stands_in(tx, waiters),
         }
+    }
+
+    /// The transaction's wait at the key, where it stands behind the owner.
+    pub fn wait(&self, tx: &TxId, key: &Key) -> Option<Wait>
+        ensures { result ≡ slice_get (waits_in key.now (tx.now ∷ []) (queue_in self.now key.now)) 0 }
+    {
+        wait_in(tx, key, self.queue(key))
     }
 
     /// Takes a key's queue out, to be put back changed; an empty one stands in its place.

@@ -1,8 +1,9 @@
 //! The queues with their index.
 
-ghost use Rattle.std.specs.Prelude.{◌≡◌, [], IfOk, IfErr, None, OnErr, OnOk};
-ghost use Rattle.part_model.specs.Queues.{edges_of, first_blocked, keys_queued_for, lists_of, owner_in, queue_in, queued_txs, queues_with};
-ghost use Rattle.entry_candidates.specs.Owning.{Explains, enqueued_each, next_owner, placed_behind, queues_after_release, taken_back, waits_at, without_last_in, without_waiter_in};
+ghost use Rattle.std.specs.Prelude.{◌≡◌, ◌∷◌, [], IfOk, IfErr, None, OnErr, OnOk, length, slice_get};
+ghost use Rattle.part_model.specs.Queues.{edges_of, first_blocked, keys_queued_for, lists_of, owner_in, queue_in, queued_txs, queues_with, queues_without};
+ghost use Rattle.entry_candidates.specs.Gathering.{wait_among};
+ghost use Rattle.entry_candidates.specs.Owning.{Explains, enqueued_each, is_owned_by, next_owner, placed_behind, queues_after_release, taken_back, waits_at, without_last_in, without_waiter_in};
 
 use crate::answers::{OwnFault, Placed};
 use crate::places::Places;
@@ -38,6 +39,18 @@ fn placed_behind(owner: Option<TxId>) -> Placed
         Some(owner) => Placed::Waits(owner),
         None => Placed::Owner,
     }
+}
+
+/// The transaction's first wait at one of these keys.
+fn wait_among(queues: &QueueTable, tx: &TxId, table: &[(Key, bool)]) -> Option<Wait>
+    ensures { result ≡ wait_among queues.now tx.now table.now }
+{
+    for (key, _) in table {
+        if let Some(wait) = queues.wait(tx, key) {
+            return Some(wait);
+        }
+    }
+    None
 }
 
 impl Queues {
@@ -161,6 +174,40 @@ impl Queues {
         }
     }
 
+    /// How many keys are held.
+    pub fn len(&self) -> usize
+        ensures { result ≡ length self.now }
+    {
+        self.queues.len()
+    }
+
+    /// The transaction that owns the key: constant time on average.
+    pub fn owner(&self, key: &Key) -> Option<TxId>
+        ensures { result ≡ owner_in self.now key.now }
+    {
+        self.queues.owner(key)
+    }
+
+    /// Whether the transaction owns the key: constant time on average.
+    pub fn is_owner(&self, tx: &TxId, key: &Key) -> bool
+        ensures { result ≡ is_owned_by tx.now (owner_in self.now key.now) }
+    {
+        self.queues.is_owner(tx, key)
+    }
+
+    /// The transaction leaves the key's queue, be it the owner or one that waits. It takes linear time in the queue, and no
+    /// memory.
+    #[tactic(auto, using(crate::proofs::Leaving::other_left))]
+    pub fn leave(&mut self, tx: TxId, key: &Key)
+        ensures { self.new ≡ queues_without self.old tx key.now }
+    {
+        if self.is_owner(&tx, key) {
+            let _next = self.release(tx, key);
+        } else {
+            let _stood = self.drop_waiting(tx, key);
+        }
+    }
+
     /// Takes the transaction out of those that wait behind the key's owner, and answers whether it was among them. It takes
     /// linear time in the queue, and no memory.
     pub fn drop_waiting(&mut self, tx: TxId, key: &Key) -> bool
@@ -183,6 +230,14 @@ impl Queues {
     {
         let keys = self.places.waited_by(of)?;
         self.queues.waits_at(&keys, of)
+    }
+
+    /// The first wait of the transaction, by key. It reads the queues of the keys alone at which it stands, and takes no
+    /// memory.
+    pub fn first_wait(&self, tx: &TxId) -> Option<Wait>
+        ensures { result ≡ slice_get (edges_of self.now (tx.now ∷ [])) 0 }
+    {
+        wait_among(&self.queues, tx, self.places.table(tx))
     }
 
     /// Each transaction that stands in some queue, once, ascending: one pass over the index and one sort.
@@ -258,6 +313,19 @@ mod tests {
         assert_eq!(rt; queues.edges(&[tx(2)])?.len(), 1);
         assert!(rt; !queues.drop_waiting(tx(3), &key));
         assert_eq!(rt; queues.release(tx(1), &key), Some(tx(2)));
+        Ok(())
+    }
+
+    #[test]
+    fn anyone_leaves(rt: HostRuntime) -> Result<(), Fail> {
+        let key = Key::read(b"a")?;
+        let mut queues = held(rt.alloc(), &key)?;
+        let holder = queues.first_wait(&tx(2)).map(|wait| wait.holder);
+        assert_eq!(rt; holder, queues.owner(&key));
+        queues.leave(tx(1), &key);
+        assert!(rt; queues.is_owner(&tx(2), &key));
+        queues.leave(tx(2), &key);
+        assert_eq!(rt; queues.len(), 0);
         Ok(())
     }
 

@@ -14,16 +14,22 @@ use Rattle.lru.proofs.CallerLemmas.{Contains-lookup_entry}
 use Rattle.near_cache.specs.Kept.{near_entries, near_entry_of}
 use Rattle.near_cache.specs.declared.near.Kept.{Kept}
 
-take_all : {X : Type 0} (n : ℕ) (xs : List X) → length xs ≤ n → take n xs ≡ xs
+pub take_all : {X : Type 0} (n : ℕ) (xs : List X) → length xs ≤ n → take n xs ≡ xs
 take_all zero [] le = refl
 take_all (suc n) [] le = refl
 take_all zero (x ∷ xs) le = absurd (omega arith)
 take_all (suc n) (x ∷ xs) le = ap (λ r. x ∷ r) (take_all n xs (omega arith))
 
-near_entries_take : (n : ℕ) (es : List (Key × Kept)) → near_entries (take n es) ≡ take n (near_entries es)
+pub near_entries_take : (n : ℕ) (es : List (Key × Kept)) → near_entries (take n es) ≡ take n (near_entries es)
 near_entries_take zero es = refl
 near_entries_take (suc n) [] = refl
 near_entries_take (suc n) (e ∷ es) = ap (λ r. near_entry_of e ∷ r) (near_entries_take n es)
+
+pub take_less : {X : Type 0} (n m : ℕ) (xs : List X) → n ≤ m → take n (take m xs) ≡ take n xs
+take_less zero m xs le = refl
+take_less (suc n) zero xs le = absurd (omega arith)
+take_less (suc n) (suc m) [] le = refl
+take_less (suc n) (suc m) (x ∷ xs) le = ap (λ r. x ∷ r) (take_less n m xs (omega arith))
 
 near_entries_length : (es : List (Key × Kept)) → length (near_entries es) ≡ length es
 near_entries_length [] = refl
@@ -80,6 +86,13 @@ module _ (same : Key → Key → Bool) (laws : IsEquivalence same) (exact : (a b
   hit_at (e ∷ es) = (elim (same k e.0) as (λ b. same k e.0 ≡ b → option_map {U = List ℕ × CacheVersion} (λ (n : NearEntry). (n.value, n.ver)) (find (λ (n : NearEntry). same n.key k) (near_entries (e ∷ es))) ≡ option_map {U = List ℕ × CacheVersion} (λ (v : Kept). (v.value, v.ver)) (cond b (Some e.1) (lookup (same k) es))) [
     | true ↦ λ h. rw (laws.symm e.0 k ∙ h)
     | false ↦ λ h. rw (laws.symm e.0 k ∙ h) (hit_at es)
+  ]) refl
+
+  pub found_at : (es : List (Key × Kept)) → find (λ (n : NearEntry). same n.key k) (near_entries es) ≡ option_map (λ (v : Kept). near_entry_of (k, v)) (lookup (same k) es)
+  found_at [] = refl
+  found_at (e ∷ es) = (elim (same k e.0) as (λ b. same k e.0 ≡ b → find (λ (n : NearEntry). same n.key k) (near_entries (e ∷ es)) ≡ option_map (λ (v : Kept). near_entry_of (k, v)) (cond b (Some e.1) (lookup (same k) es))) [
+    | true ↦ λ h. rw (laws.symm e.0 k ∙ h) (ap (λ j. Some (near_entry_of (j, e.1))) (sym (exact k e.0 h)))
+    | false ↦ λ h. rw (laws.symm e.0 k ∙ h) (found_at es)
   ]) refl
 
   -- the entries of other keys

@@ -1,3 +1,4 @@
+pub mod CacheLaws
 pub mod Entries
 pub mod NearLaws
 pub mod ReaderLaws

@@ -1,12 +1,12 @@
 -- The same of keys and versions as the near cache compares them.
-use Rattle.std.proofs.Common.{◌≡◌, ℕ, Bool, true, false, List, [], ◌∷◌, ◌++◌, Option, Some, None, refl, ap, sym, ◌∙◌, arith, nat_eq, cond, option_map, subst, append_assoc}
+use Rattle.std.proofs.Common.{◌≡◌, ℕ, Bool, true, false, List, [], ◌∷◌, ◌++◌, Option, Some, None, refl, ap, sym, ◌∙◌, arith, nat_eq, cond, option_map, subst, append_assoc, take, ◌≤◌}
 use Rattle.std.specs.Cmp.{IsEquivalence, on_equiv, and_equiv, nat_eq_equiv, first_so, second_so}
 use Rattle.std.specs.Cmp.Lexicographic.{pointwise}
 use Rattle.std.specs.Map.{keys_of, lookup, remove_entry, set_value}
 use Rattle.std.proofs.lemmas.Bool.{eqb-true}
 use Rattle.std.proofs.lemmas.Cmp.{nat_list_eq_equiv}
 use Rattle.std.proofs.lemmas.Map.Keys.{IsDistinct-head, IsDistinct-tail}
-use Rattle.part_model.specs.NearEntries.{near_put, near_updated}
+use Rattle.part_model.specs.NearEntries.{near_entry, near_front, near_put, near_updated}
 use Rattle.part_model.specs.Orders.{is_lower}
 use Rattle.ignite_types.proofs.NameLaws.{key_equiv, same_key_true}
 use Rattle.ignite_types.specs.Names.{same_key}
@@ -20,6 +20,10 @@ use Rattle.near_cache.proofs.Entries as entries
 
 abbrev key_with : ℕ → List ℕ → Key
 key_with cache text = record { cache = cache; text = text }
+
+-- the entry of a key is what is kept there
+pub entry_kept : (es : List (Key × Kept)) (k : Key) → near_entry (near_entries es) k ≡ option_map (λ (v : Kept). near_entry_of (k, v)) (lookup (same_key k) es)
+entry_kept es k = entries.found_at same_key key_equiv same_key_true k es
 
 -- a hit answers what is kept at the key
 pub hit_kept : (es : List (Key × Kept)) (k : Key) → hit (near_entries es) k ≡ option_map {U = List ℕ × CacheVersion} (λ (v : Kept). (v.value, v.ver)) (lookup (same_key k) es)
@@ -37,6 +41,14 @@ hit_front c k valid = entries.front same_key key_equiv same_key_true k c.entries
 
 pub put_kept : (c : LruCache Key Kept) (k : Key) (v : Kept) → IsValid same_key c → near_put c.cap (near_entries c.entries) (near_entry_of (k, v)) ≡ near_entries (put_entries same_key c k v)
 put_kept c k v valid = entries.put_front same_key key_equiv same_key_true k c.entries v c.cap valid.0 valid.1 valid.2
+
+-- an entry is put into a cache with room for the size, which then gets that size
+pub put_sized : (c : LruCache Key Kept) (es : List (Key × Kept)) (k : Key) (v : Kept) (size : ℕ) → IsValid same_key c → c.entries ≡ es → size ≤ c.cap → near_entries (take size (put_entries same_key c k v)) ≡ near_put size (near_entries es) (near_entry_of (k, v))
+put_sized c es k v size valid same room =
+    entries.near_entries_take size (put_entries same_key c k v)
+    ∙ ap (take size) (sym (put_kept c k v valid))
+    ∙ entries.take_less size c.cap (near_front (near_entries c.entries) (near_entry_of (k, v))) room
+    ∙ ap (λ (l : List (Key × Kept)). near_put size (near_entries l) (near_entry_of (k, v))) same
 
 under : {X : Type 0} (b c : Bool) (x y : X) → b ≡ c → cond b x y ≡ cond c x y
 under b c x y h = rw h refl

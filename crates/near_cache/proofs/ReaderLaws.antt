@@ -41,7 +41,7 @@ module _ {K V : Type 0} (cmp : K → K → Ordering) (o : IsTotalOrder cmp) wher
   above x (e ∷ es) (suc i) k below l here = above x es i k below.1 (omega arith) here
 
   -- the entry of the next key comes to the end of a copy
-  put_in_order : (es : List (K × V)) (i : ℕ) (k : K) (v : V) → IsAscending cmp es → i < length (keys_of es) → k ≡ get_or (keys_of es) i k → at cmp es k ≡ Some v → put cmp (take i es) k v ≡ take (suc i) es
+  pub put_in_order : (es : List (K × V)) (i : ℕ) (k : K) (v : V) → IsAscending cmp es → i < length (keys_of es) → k ≡ get_or (keys_of es) i k → at cmp es k ≡ Some v → put cmp (take i es) k v ≡ take (suc i) es
   put_in_order [] i k v ascending l here found = absurd (omega arith)
   put_in_order (e ∷ es) zero k v ascending l here found =
       let tied : cmp k e.0 ≡ Equal = rw here (tied_itself o e.0) in

@@ -1,2 +1,3 @@
+pub mod ByCache
 pub mod Kept
 pub mod Sized

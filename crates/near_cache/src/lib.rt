@@ -2,7 +2,9 @@
 #![tactic(auto)]
 
 mod near;
+mod nears;
 mod readers;
 
 pub use near::{Kept, Near};
+pub use nears::Nears;
 pub use readers::Readers;

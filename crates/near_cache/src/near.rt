@@ -1,16 +1,17 @@
 //! A near cache.
 
-ghost use Rattle.std.specs.Prelude.{◌≡◌, ◌<◌, [], IfOk, OnErr, OnOk};
+ghost use Rattle.std.specs.Prelude.{◌≡◌, ◌<◌, ◌≤◌, [], IfOk, OnErr, OnOk};
 ghost use Rattle.std.specs.Map.{set_value};
 ghost use Rattle.std.specs.NonZero.{non_zero_usize_get};
-ghost use Rattle.part_model.specs.NearEntries.{near_put, near_updated};
+ghost use Rattle.part_model.specs.NearEntries.{near_entry, near_put, near_updated};
 ghost use Rattle.ignite_types.specs.Names.{same_key};
 ghost use Rattle.lru.specs.LruCache.{lru_cache};
-ghost use Rattle.near_cache.specs.Kept.{has_older};
+ghost use Rattle.near_cache.specs.Kept.{has_older, near_entry_of};
 ghost use Rattle.near_cache.specs.Sized.{after_hit, hit};
 
 use ignite_types::{CacheVersion, Key, Mem, Value};
 use lru::LruCache;
+use part_model::NearEntry;
 use std::alloc::Global;
 use std::marker::Model;
 use std::num::NonZeroUsize;
@@ -84,6 +85,19 @@ fn copied(alloc: Global, entries: &LruCache<Key, Kept>) -> Mem<LruCache<Key, Kep
     Ok(copy)
 }
 
+/// There is room for so many entries at least.
+#[tactic(auto, using(crate::proofs::Entries::take_all))]
+fn make_room(entries: &mut LruCache<Key, Kept>, size: NonZeroUsize)
+    ensures same { entries.new.entries ≡ entries.old.entries }
+    ensures room { non_zero_usize_get size ≤ entries.new.cap }
+{
+    // the length is asked for its clause that there are no more entries than there may be
+    let _count = entries.len();
+    if entries.cap().get() < size.get() {
+        entries.resize(size);
+    }
+}
+
 impl Near {
     /// An empty near cache of this size.
     pub fn new(alloc: Global, size: u32) -> Mem<Near>
@@ -125,6 +139,45 @@ impl Near {
         let _count = self.entries.len();
         self.entries.put(key, Kept { value, ver })?;
         Ok(())
+    }
+
+    /// Puts an entry in front, as `put` does, of a near cache that has this size from then on.
+    pub fn put_within(&mut self, size: u32, key: Key, value: Value, ver: CacheVersion) -> Mem<()>
+        requires { 0 < size }
+        ensures { OnOk result (self.new
+            ≡ record { size = size; entries = near_put size self.old.entries (record { key = key; value = value; ver = ver }) }) }
+    {
+        match NonZeroUsize::new(size as usize) {
+            Some(size) => self.put_sized(size, key, Kept { value, ver }),
+            None => unreachable!(),
+        }
+    }
+
+    fn put_sized(&mut self, size: NonZeroUsize, key: Key, kept: Kept) -> Mem<()>
+        ensures { OnOk result (self.new
+            ≡ record { size = non_zero_usize_get size; entries = near_put (non_zero_usize_get size) self.old.entries (near_entry_of (key, kept)) }) }
+    {
+        make_room(&mut self.entries, size);
+        // the length is asked for its clause that the keys are distinct
+        let _count = self.entries.len();
+        self.entries.put(key, kept)?;
+        self.entries.resize(size);
+        Ok(())
+    }
+
+    /// The entry of the key, which stays where it is.
+    #[tactic(auto, using(crate::proofs::NearLaws::entry_kept))]
+    pub fn entry(&self, key: &Key) -> Option<NearEntry>
+        ensures { result ≡ near_entry self.now.entries key.now }
+    {
+        match self.entries.peek(key) {
+            Some(kept) => Some(NearEntry {
+                key: *key,
+                value: kept.value,
+                ver: kept.ver,
+            }),
+            None => None,
+        }
     }
 
     /// Changes the entry of the key at its place where its version is lower, or takes it out where the value was removed.

@@ -6,7 +6,6 @@ ghost use Rattle.act_rows.specs.Accesses.{after_access, after_access_at, after_a
 ghost use Rattle.act_rows.specs.Steps.{entry_of, near_of};
 
 use crate::entries::{ask_lock, ask_value, keep_read, keep_write, set_outcome, touch, value_at};
-use crate::nears::{near_entry, near_of, put_near, with_front};
 use crate::preparing::commit;
 use crate::values::{access_key, answer_of};
 use ignite_types::limits::TRANSACTION_KEYS;
@@ -100,10 +99,10 @@ fn is_near(node: &Node, key: &Key) -> bool
 
 /// A near entry is used: it comes to the front and counts as read.
 fn use_near(node: &mut Node, tx: TxId, key: &Key, entry: &NearEntry) -> Mem<()>
+    requires there { near_entry (near_of node.old key.now) key.now ≡ Some entry.now }
     ensures { OnOk result (node.new ≡ after_near_hit node.old tx key.now entry.now) }
 {
-    let next = with_front(node.alloc, near_of(node, key), entry)?;
-    put_near(node, key, next)?;
+    node.use_near(key, entry);
     let read = Read {
         found: Some(entry.value),
         ver: entry.ver,
@@ -112,6 +111,7 @@ fn use_near(node: &mut Node, tx: TxId, key: &Key, entry: &NearEntry) -> Mem<()>
 }
 
 /// A value that an optimistic access needs: from the near cache, or from the primary.
+#[tactic(auto, using(crate::proofs::Touching::still_near))]
 fn optimistic_read(
     node: &mut Node,
     tx: TxId,
@@ -123,7 +123,7 @@ fn optimistic_read(
 ) -> Mem<()>
     ensures { OnOk result (node.new ≡ after_optimistic_read node.old tx top block command.now key.now primary (near_entry (near_of node.old key.now) key.now)) }
 {
-    match near_entry(near_of(node, key), key) {
+    match node.near_entry(key) {
         Some(entry) => {
             touch(node, tx, key)?;
             use_near(node, tx, key, &entry)?;
@@ -213,7 +213,13 @@ fn access(
 }
 
 /// A command of a transaction whose version is fixed, in a block or bare.
-pub fn does(node: &mut Node, tx: TxId, top: TopVer, block: bool, command: &Command) -> Mem<()>
+pub fn run_command(
+    node: &mut Node,
+    tx: TxId,
+    top: TopVer,
+    block: bool,
+    command: &Command,
+) -> Mem<()>
     ensures { OnOk result (node.new ≡ after_run_command node.old tx top block command.now) }
 {
     match access_key(command) {

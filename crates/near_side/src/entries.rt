@@ -117,7 +117,7 @@ pub(crate) fn got_value(node: &mut Node, tx: TxId) -> Mem<()>
 
 /// The transaction's topology version is fixed.
 #[tactic(auto, using(act_rows::proofs::TableLaws::tx_put_put))]
-pub(crate) fn fix_version(node: &mut Node, tx: TxId, top: TopVer) -> Mem<()>
+pub fn fix_version(node: &mut Node, tx: TxId, top: TopVer) -> Mem<()>
     ensures { OnOk result (node.new ≡ with_version node.old tx top) }
 {
     let Some(mut entry) = node.take_entry(tx) else {

@@ -6,7 +6,6 @@ ghost use Rattle.act_rows.specs.Steps.{session_state_of};
 
 use crate::access::do_known;
 use crate::entries::{got_value, keep_read, no_longer_await, set_state};
-use crate::nears::{near_of, put_near, updated, with_put};
 use crate::values::{access_key, read_of};
 use ignite_types::{
     CacheVersion, Command, Fail, Fault, Found, Key, Mem, Message, NodeId, Share, TopVer, TxId,
@@ -95,8 +94,7 @@ fn keep_near(node: &mut Node, key: &Key, near: bool, found: &Found) -> Mem<()>
                 value: *value,
                 ver: *ver,
             };
-            let next = with_put(node.alloc, node.near_size(key), near_of(node, key), &entry)?;
-            put_near(node, key, next)
+            node.keep_near(&entry)
         }
         _ => Ok(()),
     }
@@ -189,8 +187,7 @@ pub fn on_near_update(
 ) -> Mem<()>
     ensures { OnOk result (node.new ≡ after_near_update node.old from tx key.now new.now ver) }
 {
-    let next = updated(node.alloc, near_of(node, key), key, new, ver)?;
-    put_near(node, key, next)?;
+    node.update_near(key, new, ver)?;
     let key = *key;
     node.send(from, Message::NearDone { tx, key })
 }

@@ -59,7 +59,7 @@ pub(crate) fn answer_of(found: &Option<Value>) -> Answer
 }
 
 /// The key of an access.
-pub(crate) fn access_key(command: &Command) -> Option<Key>
+pub fn access_key(command: &Command) -> Option<Key>
     ensures { result ≡ access_key command.now }
 {
     match command {

@@ -7,9 +7,9 @@ ghost use Rattle.act_rows.specs.Closing.{after_closing_rules};
 
 use crate::closing::close;
 use crate::messages::on_message;
+use client_sessions::{on_answer, on_call};
 use deadlock_search::{on_expire, search_saw_leave};
 use ignite_types::{List, Mem, Message, NodeId, Out, Rec, TopoEvent, TxId};
-use near_side::{on_answer, on_call};
 use node_steps::Node;
 use partition_exchange::{learn, learn_all};
 use prepare_finish::primary_saw_leave;

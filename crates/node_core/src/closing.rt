@@ -6,8 +6,8 @@ ghost use Rattle.act_rows.specs.Closing.{after_advance_each_tx, after_advance_st
 ghost use Rattle.act_rows.specs.Exchange.{is_kept_commit};
 ghost use Rattle.act_rows.specs.Steps.{entry_of};
 
+use client_sessions::start_all;
 use ignite_types::{List, Mem, Message, ShareState, TopVer, TxId};
-use near_side::start_all;
 use node_state::{BackupName, BackupShare, OwnShare, TxEntry, TxState};
 use node_steps::Node;
 use plain_copies::Duplicate;
@@ -110,7 +110,7 @@ fn is_drained(node: &Node) -> bool
     ensures { result ≡ is_drained node.now }
 {
     all_over(node.state.txs.as_slice())
-        && node.state.queues.len() == 0
+        && node.is_free()
         && all_done(node.state.shares.as_slice())
         && all_committed_backups(node.state.backups.as_slice())
         && is_calm(node)

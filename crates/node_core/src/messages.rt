@@ -3,21 +3,22 @@
 ghost use Rattle.std.specs.Prelude.{◌≡◌, OnOk};
 ghost use Rattle.act_rows.specs.Acts.{after_backup_finished, after_finished, after_holder_message, after_message, after_topology_message};
 
-use deadlock_search::on_edges_ok;
+use backup_sync::{on_backup_finish, on_backup_prepare};
+use deadlock_search::{on_edges, on_edges_ok};
 use ignite_types::{List, Mem, Message, NodeId, TxId};
 use near_side::{
     on_get_ok, on_lock_ok, on_near_backup_finished, on_near_finished, on_near_update,
     on_prepare_fail, on_prepared,
 };
 use node_steps::Node;
-use partition_exchange::{
-    on_complete, on_demand, on_full, on_installed, on_opens, on_single, on_supply,
-};
+use optimistic_tx::on_get;
+use partition_exchange::{on_full, on_installed, on_opens, on_single};
+use pessimistic_tx::on_lock;
 use plain_copies::Duplicate;
 use prepare_finish::{
-    on_backup_finish, on_backup_prepare, on_backup_prepared, on_edges, on_finish, on_get, on_lock,
-    on_near_done, on_own_backup_finished, on_prepare,
+    on_backup_prepared, on_finish, on_near_done, on_own_backup_finished, on_prepare,
 };
+use rebalance::{on_complete, on_demand, on_supply};
 use tx_recovery::{on_orphans, on_recovery_backup_finished, on_recovery_finished};
 
 fn on_finished(node: &mut Node, from: NodeId, tx: TxId) -> Mem<()>

@@ -6,11 +6,12 @@ ghost use Rattle.part_model.specs.NextMap.{servers};
 
 use discovery_order::{first_top, running_from};
 use ignite_types::{List, Mem, Member, NodeId, PartMap, Row, Scenario, Session};
-use node_state::{SessionState, Store};
+use node_state::SessionState;
 use node_steps::{Node, NodeParts, new_session_state};
 use ordered_set::Set;
 use ordered_table::Table;
 use part_map::opening_map;
+use partition_store::Stores;
 use plain_copies::Duplicate;
 use std::alloc::Global;
 
@@ -63,14 +64,11 @@ fn session_states_on(
 }
 
 /// An empty copy for each of these rows.
-fn empty_copies(alloc: Global, rows: &[Row]) -> Mem<List<Store>>
+#[tactic(auto, using(crate::proofs::EmptyCopies::as_many))]
+fn empty_copies(alloc: Global, rows: &[Row]) -> Mem<Stores>
     ensures { IfOk result (λ copies. copies ≡ empty_copies rows.now) }
 {
-    let mut copies = List::new(alloc);
-    for _row in rows {
-        copies.push(Table::new(alloc))?;
-    }
-    Ok(copies)
+    Stores::new(alloc, rows.len())
 }
 
 fn map_if(alloc: Global, initial: bool, map: &PartMap) -> Mem<Option<PartMap>>
@@ -94,7 +92,8 @@ pub fn new_node(
     ensures { IfOk result (λ node. node ≡ opening_node scenario.now map.now id initial) }
 {
     let running = running_from(alloc, scenario.caches.as_slice())?;
-    let state = NodeParts {
+    let stores = empty_copies(alloc, map.rows.as_slice())?;
+    let parts = NodeParts {
         me: id,
         acts: 0,
         now: 0,
@@ -108,10 +107,6 @@ pub fn new_node(
         opened: if initial { Some(first_top()) } else { None },
         session_states: session_states_on(alloc, id, scenario.sessions.as_slice())?,
         txs: Table::new(alloc),
-        near: Table::new(alloc),
-        stores: empty_copies(alloc, map.rows.as_slice())?,
-        queues: Table::new(alloc),
-        readers: Table::new(alloc),
         order: 0,
         shares: Table::new(alloc),
         backups: Table::new(alloc),
@@ -126,5 +121,5 @@ pub fn new_node(
         outbox: List::new(alloc),
         noted: List::new(alloc),
     };
-    Ok(Node { alloc, state })
+    Ok(Node::new(alloc, stores, parts))
 }

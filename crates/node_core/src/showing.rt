@@ -5,7 +5,7 @@ ghost use Rattle.act_rows.specs.Commands.{is_over_or_absent};
 ghost use Rattle.act_rows.specs.Acts.{may_answer, may_call, may_send};
 ghost use Rattle.act_rows.specs.Steps.{session_state_of};
 
-use near_side::{answer_at, call_at, session_state_over};
+use client_sessions::{answer_at, call_at, session_state_over};
 use node_steps::Node;
 
 /// Whether the session may give a command.

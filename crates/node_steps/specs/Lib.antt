@@ -1,1 +1,3 @@
+pub mod Beginning
+pub mod Lending
 pub mod Taking

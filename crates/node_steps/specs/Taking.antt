@@ -2,17 +2,12 @@
 use Rattle.std.specs.Prelude.{None, Some, [], ℕ, ◌≡◌}
 use Rattle.act_rows.specs.Commands.{new_entry, new_session_state}
 use Rattle.act_rows.specs.Steps.{entry_of, no_top, session_state_of, share_of, with_entry, with_session_state, with_share}
-use Rattle.part_model.specs.Queues.{Queues}
-use Rattle.ignite_types.specs.Names.{key_cmp}
-use Rattle.ignite_types.specs.declared.list.List.{List}
 use Rattle.ignite_types.specs.declared.names.TxId.{TxId}
 use Rattle.ignite_types.specs.declared.placement.ShareState.TheVariants.{Preparing}
-use Rattle.ignite_types.specs.declared.text.Key.{Key}
 use Rattle.node_state.specs.declared.near.TxEntry.{TxEntry}
 use Rattle.node_state.specs.Node.{NodeState}
 use Rattle.node_state.specs.declared.primary.OwnShare.{OwnShare}
 use Rattle.node_state.specs.declared.session.SessionState.{SessionState}
-use Rattle.ordered_table.specs.Entries.{at, put}
 use Rattle.ignite_types.specs.declared.scenario.Mode.TheVariants as mode
 
 pub record TakesEntry (old new : NodeState) (tx : TxId) (entry : TxEntry) : Type 0 where
@@ -48,12 +43,4 @@ pub record TakesShare (old new : NodeState) (tx : TxId) (share : OwnShare) : Typ
 
 pub record TakesNoShare (old new : NodeState) (tx : TxId) : Type 0 where
   pub was : share_of old tx ≡ None
-  pub same : new ≡ old
-
-pub record TakesQueue (old new : Queues) (key : Key) (queue : List TxId) : Type 0 where
-  pub was : at key_cmp old key ≡ Some queue
-  pub vacant : new ≡ put key_cmp old key []
-
-pub record TakesNoQueue (old new : Queues) (key : Key) : Type 0 where
-  pub was : at key_cmp old key ≡ None
   pub same : new ≡ old

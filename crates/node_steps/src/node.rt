@@ -1,16 +1,22 @@
 //! The node.
 
-use ignite_types::{Cache, Key, List, Member, NodeId, Out, PartMap, Rec, Single, TopVer, TxId};
+ghost use Rattle.std.specs.Prelude.{◌≡◌};
+ghost use Rattle.node_steps.specs.Beginning.{begun_node};
+
+use entry_candidates::Queues;
+use ignite_types::{Cache, List, Member, NodeId, Out, PartMap, Rec, Single, TopVer, TxId};
+use near_cache::{Nears, Readers};
 use node_state::{
-    BackupName, BackupShare, Claim, Exchange, OwnShare, Report, Round, SessionState, Store, TxEntry,
+    BackupName, BackupShare, Claim, Exchange, OwnShare, Report, Round, SessionState, TxEntry,
 };
 use ordered_set::Set;
 use ordered_table::Table;
 use part_model::NearEntry;
+use partition_store::Stores;
 use std::alloc::Global;
 use std::marker::Model;
 
-/// What a node keeps between two acts, in the tables that it keeps it in.
+/// What a node keeps between two acts beside its copies, its lock queues, its near caches and the readers of its keys.
 #[derive(Debug, Drop)]
 pub struct NodeParts {
     pub me: NodeId,
@@ -38,15 +44,7 @@ pub struct NodeParts {
     pub session_states: Table<u32, SessionState>,
     /// The transactions that were started here and have not ended, or whose fault is not told yet.
     pub txs: Table<TxId, TxEntry>,
-    /// The near cache of each cache that has one, by the cache's number; the most recent entry first.
-    pub near: Table<u32, List<NearEntry>>,
 
-    /// The copies of all partitions, by their number.
-    pub stores: List<Store>,
-    /// For each key that is held the transactions at its lock: the first owns it, the others wait.
-    pub queues: Table<Key, List<TxId>>,
-    /// For each key the nodes to which updates of it go.
-    pub readers: Table<Key, Set<NodeId>>,
     /// The last number that was drawn for an entry's version.
     pub order: u64,
     /// This primary's own shares.
@@ -77,11 +75,19 @@ pub struct NodeParts {
     pub noted: List<Rec>,
 }
 
-/// A node of the cluster, which contracts see as its state. The rows of the protocol are functions over it; want of memory
-/// in a row leaves a node that is of no further use.
+/// A node of the cluster, made of its parts, which contracts see as its state. The handlers of the protocol are functions over
+/// it; want of memory in a handler leaves a node that is of no further use.
 #[derive(Debug, Drop)]
 pub struct Node {
     pub alloc: Global,
+    /// The copies of all partitions, by their number.
+    pub(crate) stores: Stores,
+    /// For each key that is held the transactions at its lock: the first owns it, the others wait.
+    pub(crate) queues: Queues,
+    /// For each key the nodes to which updates of it go.
+    pub(crate) readers: Readers,
+    /// The near cache of each cache that has one, the most recent entry first.
+    pub(crate) near: Nears,
     pub state: NodeParts,
 }
 
@@ -104,10 +110,10 @@ impl Model for Node {
       opened = node.state.opened;
       session_states = node.state.session_states;
       txs = node.state.txs;
-      near = node.state.near;
-      stores = node.state.stores;
-      queues = node.state.queues;
-      readers = node.state.readers;
+      near = node.near;
+      stores = node.stores;
+      queues = node.queues;
+      readers = node.readers;
       order = node.state.order;
       shares = node.state.shares;
       backups = node.state.backups;
@@ -122,4 +128,20 @@ impl Model for Node {
       outbox = node.state.outbox;
       noted = node.state.noted;
     } };
+}
+
+impl Node {
+    /// A node with these copies at which no key is held or read.
+    pub fn new(alloc: Global, stores: Stores, parts: NodeParts) -> Node
+        ensures { result ≡ begun_node stores parts }
+    {
+        Node {
+            alloc,
+            stores,
+            queues: Queues::new(alloc),
+            readers: Readers::new(alloc),
+            near: Nears::new(alloc),
+            state: parts,
+        }
+    }
 }

@@ -1,16 +1,18 @@
 //! Where keys lie by the installed map, and what the node's copies have there.
 
-ghost use Rattle.std.specs.Prelude.{◌≡◌, OnOk, option_copied, slice_get, slice_set};
-ghost use Rattle.part_model.specs.Copies.{absent_version, copy_after_write, copy_at};
+ghost use Rattle.std.specs.Prelude.{◌≡◌, OnOk, slice_get};
+ghost use Rattle.std.specs.Borrow.{sem};
+ghost use Rattle.std.specs.Option.{option_copied, option_copied_mut};
+ghost use Rattle.part_model.specs.Copies.{absent_version};
+ghost use Rattle.partition_store.specs.Keeping.{copies_kept};
+ghost use Rattle.node_steps.specs.Lending.{lends_copy};
 ghost use Rattle.act_rows.specs.Steps.{installed_top, is_filling, is_holder, is_holder_in, is_installed, is_mover_in, is_open, near_size, partition_of, primary_at, rows_of};
 ghost use Rattle.act_rows.specs.Stores.{after_apply_each, found_at, version_of, with_stored};
 
-use crate::copies::{apply, found_in};
 use crate::node::Node;
 use crate::nodes::has_node;
-use ignite_types::{CacheVersion, Found, Key, List, Mem, NodeId, Rec, Row, Stored, TopVer, TxId};
-use node_state::Store;
-use std::mem;
+use ignite_types::{CacheVersion, Found, Key, Mem, NodeId, Rec, Row, Stored, TopVer, TxId};
+use partition_store::Store;
 
 /// The version of what was found; of nothing the least one.
 pub fn version_of(found: &Found) -> CacheVersion
@@ -31,16 +33,6 @@ pub fn absent_version() -> CacheVersion
         order: 0,
         node: NodeId(0),
     }
-}
-
-/// A write is done to the copy at this place, where there is one.
-fn apply_at(copies: &mut Vec<Store>, part: usize, write: &Stored, filling: bool) -> Mem<()>
-    ensures { OnOk result (copies.new.items ≡ slice_set copies.old.items part (copy_after_write (copy_at copies.old.items part) write.now filling)) }
-{
-    if copies.len() <= part {
-        return Ok(());
-    }
-    apply(&mut copies[part], write, filling)
 }
 
 impl Node {
@@ -137,21 +129,50 @@ impl Node {
     pub fn found_at(&self, key: &Key) -> Found
         ensures { result ≡ found_at self.now key.now }
     {
-        let store = self.state.stores.get(self.partition(key) as usize)?;
-        found_in(store, key)
+        let store = self.stores.at(self.partition(key))?;
+        store.get(key)
+    }
+
+    /// The copies of all partitions, by their numbers.
+    pub fn copies(&self) -> &[Store]
+        ensures { result.now ≡ self.now.stores }
+    {
+        self.stores.as_slice()
+    }
+
+    /// The copy of a partition.
+    pub fn copy_of(&self, part: u32) -> Option<&Store>
+        ensures { option_copied result ≡ slice_get self.now.stores part }
+    {
+        self.stores.at(part)
+    }
+
+    /// The copy of a partition, to change it.
+    pub fn copy_mut(&mut self, part: u32) -> Option<&mut Store>
+        ensures* writes_back { sem 𝓛 (lends_copy self.entry part result) }
+        ensures value { option_copied_mut result ≡ slice_get self.old.stores part }
+    {
+        self.stores.at_mut(part)
+    }
+
+    /// The copies of the partitions that are not to stay are emptied; it takes no memory.
+    pub fn keep_copies(&mut self, stay: &[bool])
+        ensures { self.new ≡ record self.old { stores = copies_kept self.old.stores stay.now } }
+    {
+        self.stores.keep(stay);
     }
 
     /// A write is done to the copy of its key's partition.
+    #[tactic(auto, using(crate::proofs::Copies::set_nowhere))]
     pub fn store(&mut self, write: &Stored) -> Mem<()>
         ensures { OnOk result (self.new ≡ with_stored self.old write.now) }
     {
         let part = self.partition(&write.key);
         let filling = self.is_filling(part);
-        let stores = mem::replace(&mut self.state.stores, List::new(self.alloc));
-        let mut copies = stores.into_vec();
-        apply_at(&mut copies, part as usize, write, filling)?;
-        self.state.stores = List::from_vec(copies);
-        Ok(())
+        let Some(store) = self.stores.at_mut(part) else {
+            return Ok(());
+        };
+        store.apply(*write, filling)
     }
 
     /// Each write is done and noted, for the primary that drew its version.

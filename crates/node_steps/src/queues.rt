@@ -1,184 +1,92 @@
-//! Lock queues.
+//! Locks: the queues of the keys.
 
-ghost use Rattle.std.specs.Prelude.{◌≡◌, ◌++◌, OnOk, IfOk, MatchOption};
-ghost use Rattle.part_model.specs.Queues.{edges_of, first_blocked, is_queued, keys_queued_for, other_owner, owner_in, queue_in, queue_without, queued_txs, queues_with, queues_without, waits_behind, waits_in, with_queue_in};
-ghost use Rattle.node_steps.specs.Taking.{TakesNoQueue, TakesQueue};
+ghost use Rattle.std.specs.Prelude.{◌≡◌, ◌∷◌, [], OnOk, IfOk, length, nat_eq, slice_get};
+ghost use Rattle.act_rows.specs.Locks.{after_leave, is_owner, owner_at, with_queued};
+ghost use Rattle.part_model.specs.Queues.{edges_of, first_blocked, keys_queued_for, lists_of, queued_txs};
 
-use crate::nodes::add_transactions;
-use ignite_types::{Key, List, Mem, TxId, Wait};
+use crate::node::Node;
+use ignite_types::{Key, List, Mem, TxId, Wait, Waiters};
 use ordered_set::Set;
-use ordered_table::Table;
-use std::alloc::Global;
 
-/// For each key that is held the transactions at its lock: the first owns it, the others wait.
-pub type Queues = Table<Key, List<TxId>>;
-
-/// Whether the transaction stands in the queue.
-pub fn stands_in(tx: &TxId, queue: &[TxId]) -> bool
-    ensures { result ≡ is_queued tx.now queue.now }
-{
-    queue.iter().any(|other| *tx == *other)
-}
-
-/// The transaction that owns the key.
-pub fn owner_in(queues: &Queues, key: &Key) -> Option<TxId>
-    ensures { result ≡ owner_in queues.now key.now }
-{
-    match queues.get(key) {
-        Some(queue) => queue.get(0).copied(),
-        None => None,
+impl Node {
+    /// The transaction stands at the end of the key's queue.
+    pub fn enqueue(&mut self, tx: TxId, key: &Key) -> Mem<()>
+        ensures { OnOk result (self.new ≡ with_queued self.old tx key.now) }
+    {
+        let _placed = self.queues.enqueue(*key, tx)?;
+        Ok(())
     }
-}
 
-/// Takes the transaction out of the queue.
-fn leave(queue: &mut Vec<TxId>, tx: TxId)
-    ensures { queue.new.items ≡ queue_without tx queue.old.items }
-{
-    queue.retain(|other| *other != tx);
-}
-
-/// Takes a key's queue out, to be put back changed; an empty one stands in its place.
-fn take_queue(alloc: Global, queues: &mut Queues, key: &Key) -> Option<List<TxId>>
-    ensures { MatchOption result (TakesNoQueue queues.old queues.new key.now) (TakesQueue queues.old queues.new key.now) }
-{
-    if queues.get(key).is_some() {
-        Some(queues.replace(*key, List::new(alloc)))
-    } else {
-        None
+    /// The transaction that owns the key.
+    pub fn owner(&self, key: &Key) -> Option<TxId>
+        ensures { result ≡ owner_at self.now key.now }
+    {
+        self.queues.owner(key)
     }
-}
 
-/// Puts a key's queue into its place; an empty one is not kept.
-fn put_queue(queues: &mut Queues, key: &Key, queue: List<TxId>) -> Mem<()>
-    ensures { OnOk result (queues.new ≡ with_queue_in queues.old key.now queue) }
-{
-    match queue.as_slice() {
-        [] => {
-            let _none = queues.remove(key);
-            Ok(())
-        }
-        _ => queues.set(*key, queue),
-    }
-}
-
-/// The transaction stands at the end of the key's queue.
-#[tactic(auto, using(act_rows::proofs::TableLaws::key_put_put, act_rows::proofs::TableLaws::key_without_put))]
-pub fn enqueue(alloc: Global, queues: &mut Queues, tx: TxId, key: &Key) -> Mem<()>
-    ensures { OnOk result (queues.new ≡ queues_with queues.old tx key.now) }
-{
-    match take_queue(alloc, queues, key) {
-        Some(mut queue) => {
-            queue.push(tx)?;
-            put_queue(queues, key, queue)
-        }
-        None => {
-            let mut queue = List::new(alloc);
-            queue.push(tx)?;
-            put_queue(queues, key, queue)
+    /// Whether the transaction owns the key.
+    pub fn owns(&self, tx: &TxId, key: &Key) -> bool
+        ensures { result ≡ is_owner tx.now (owner_at self.now key.now) }
+    {
+        match self.owner(key) {
+            Some(owner) => *tx == owner,
+            None => false,
         }
     }
-}
 
-/// Takes the transaction out of the key's queue.
-#[tactic(auto, using(act_rows::proofs::TableLaws::key_put_put, act_rows::proofs::TableLaws::key_without_put))]
-pub fn leave_queue(alloc: Global, queues: &mut Queues, tx: TxId, key: &Key) -> Mem<()>
-    ensures { OnOk result (queues.new ≡ queues_without queues.old tx key.now) }
-{
-    match take_queue(alloc, queues, key) {
-        Some(queue) => {
-            let mut others = queue.into_vec();
-            leave(&mut others, tx);
-            put_queue(queues, key, List::from_vec(others))
-        }
-        None => put_queue(queues, key, List::new(alloc)),
+    /// Takes the transaction out of the key's queue; it takes no memory.
+    pub fn leave_queue(&mut self, tx: TxId, key: &Key)
+        ensures { self.new ≡ after_leave self.old tx key.now }
+    {
+        self.queues.leave(tx, key);
     }
-}
 
-/// The keys in whose queues the transaction stands, in the keys' order.
-pub fn keys_of(alloc: Global, queues: &Queues, tx: &TxId) -> Mem<List<Key>>
-    ensures { IfOk result (λ keys. keys ≡ keys_queued_for queues.now tx.now) }
-{
-    let mut keys = List::new(alloc);
-    for (key, queue) in queues.as_slice() {
-        if stands_in(tx, queue.as_slice()) {
-            keys.push(*key)?;
-        }
+    /// All lock queues, by key.
+    pub fn lock_queues(&self) -> Mem<List<Waiters>>
+        ensures { IfOk result (λ lists. lists ≡ lists_of self.now.queues) }
+    {
+        self.queues.lists()
     }
-    Ok(keys)
-}
 
-/// The owner of a key, where it is another transaction than this.
-fn other_owner(queues: &Queues, key: &Key, tx: &TxId) -> Option<TxId>
-    ensures { result ≡ other_owner tx.now (owner_in queues.now key.now) }
-{
-    match owner_in(queues, key) {
-        Some(owner) if *tx != owner => Some(owner),
-        _ => None,
+    /// The keys in whose queues the transaction stands, in the keys' order.
+    pub fn keys_of(&self, tx: TxId) -> Mem<List<Key>>
+        ensures { IfOk result (λ keys. keys ≡ keys_queued_for self.now.queues tx) }
+    {
+        self.queues.keys_of(tx)
     }
-}
 
-/// The first of these keys that another transaction owns, with its owner.
-pub fn first_blocked(queues: &Queues, keys: &[Key], tx: &TxId) -> Option<(Key, TxId)>
-    ensures { result ≡ first_blocked queues.now keys.now tx.now }
-{
-    for key in keys {
-        if let Some(owner) = other_owner(queues, key, tx) {
-            return Some((*key, owner));
-        }
+    /// The waits of these transactions, by key and then place.
+    pub fn edges_of(&self, of: &[TxId]) -> Mem<List<Wait>>
+        ensures { IfOk result (λ waits. waits ≡ edges_of self.now.queues of.now) }
+    {
+        self.queues.edges(of)
     }
-    None
-}
 
-/// Those of the waiting ones that are listed, each waiting for the owner.
-fn add_waits_behind(
-    waits: &mut List<Wait>,
-    key: &Key,
-    owner: &TxId,
-    of: &[TxId],
-    waiters: &[TxId],
-) -> Mem<()>
-    ensures { OnOk result (waits.new ≡ waits.old ++ waits_behind key.now owner.now of.now waiters.now) }
-{
-    for waiter in waiters {
-        if stands_in(waiter, of) {
-            waits.push(Wait {
-                key: *key,
-                waiter: *waiter,
-                holder: *owner,
-            })?;
-        }
+    /// The first of the transaction's waits, by key.
+    pub fn first_wait(&self, tx: &TxId) -> Option<Wait>
+        ensures { result ≡ slice_get (edges_of self.now.queues (tx.now ∷ [])) 0 }
+    {
+        self.queues.first_wait(tx)
     }
-    Ok(())
-}
 
-/// The waits at one key of the transactions that are listed.
-fn add_waits(waits: &mut List<Wait>, key: &Key, of: &[TxId], queue: &[TxId]) -> Mem<()>
-    ensures { OnOk result (waits.new ≡ waits.old ++ waits_in key.now of.now queue.now) }
-{
-    match queue {
-        [] => Ok(()),
-        [owner, waiters @ ..] => add_waits_behind(waits, key, owner, of, waiters),
+    /// The first of these keys that another transaction owns, with its owner.
+    pub fn first_blocked(&self, keys: &[Key], tx: &TxId) -> Option<(Key, TxId)>
+        ensures { result ≡ first_blocked self.now.queues keys.now tx.now }
+    {
+        self.queues.first_blocked(keys, *tx)
     }
-}
 
-/// The waits of these transactions, by key and then place.
-pub fn edges_of(alloc: Global, queues: &Queues, of: &[TxId]) -> Mem<List<Wait>>
-    ensures { IfOk result (λ waits. waits ≡ edges_of queues.now of.now) }
-{
-    let mut waits = List::new(alloc);
-    for (key, queue) in queues.as_slice() {
-        add_waits(&mut waits, key, of, queue.as_slice())?;
+    /// Each transaction that stands in some queue, once, ascending.
+    pub fn standing(&self) -> Mem<Set<TxId>>
+        ensures { IfOk result (λ set. set ≡ queued_txs self.now.queues) }
+    {
+        Ok(Set::from_list(self.queues.standing()?))
     }
-    Ok(waits)
-}
 
-/// Each transaction that stands in some queue, once, ascending.
-pub fn standing_in(alloc: Global, queues: &Queues) -> Mem<Set<TxId>>
-    ensures { IfOk result (λ set. set ≡ queued_txs queues.now) }
-{
-    let mut set = Set::new(alloc);
-    for (_, queue) in queues.as_slice() {
-        add_transactions(&mut set, queue.as_slice())?;
+    /// Whether no key is held.
+    pub fn is_free(&self) -> bool
+        ensures { result ≡ nat_eq (length self.now.queues) 0 }
+    {
+        self.queues.len() == 0
     }
-    Ok(set)
 }

@@ -1,2 +1,1 @@
 pub mod Coordinating
-pub mod Movers

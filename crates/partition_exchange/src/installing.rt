@@ -1,46 +1,36 @@
 //! A map is installed.
 
-ghost use Rattle.std.specs.Prelude.{◌≡◌, [], if◌then◌else◌, IfOk, OnOk};
-ghost use Rattle.std.specs.Option.{option_copied};
+ghost use Rattle.std.specs.Prelude.{◌≡◌, IfOk, OnOk, map};
 ghost use Rattle.act_rows.specs.Exchange.{after_install, is_kept_commit, kept_copies};
-ghost use Rattle.act_rows.specs.Steps.{is_owner_in};
+ghost use Rattle.part_model.specs.NextMap.{has_node};
 ghost use Rattle.part_model.specs.Tables.{keys_where};
 
 use ignite_types::{List, Mem, NodeId, PartMap, Rec, Row, ShareState, TxId};
-use node_state::{BackupName, BackupShare, OwnShare, Store};
+use node_state::{BackupName, BackupShare, OwnShare};
 use node_steps::{Node, has_node, remove_each};
 use ordered_set::Set;
 use ordered_table::Table;
 use plain_copies::Duplicate;
 use std::alloc::Global;
-use std::mem;
 
-/// Whether a node owns the partition of a row.
-fn owns(me: NodeId, row: Option<&Row>) -> bool
-    ensures { result ≡ is_owner_in me (option_copied row.entry) }
+/// Of each row whether a node owns its partition.
+fn owned_parts(alloc: Global, me: NodeId, rows: &[Row]) -> Mem<List<bool>>
+    ensures { IfOk result (λ owned. owned ≡ map (λ row. has_node row.owners me) rows.now) }
 {
-    match row {
-        Some(row) => has_node(row.owners.as_slice(), me),
-        None => false,
+    let mut owned = List::new(alloc);
+    for row in rows {
+        owned.push(has_node(row.owners.as_slice(), me))?;
     }
+    Ok(owned)
 }
 
-/// A copy stays where this node owns its partition; else it is emptied.
-fn keep_copy(alloc: Global, me: NodeId, copy: &mut Store, row: Option<&Row>)
-    ensures { copy.new ≡ (if is_owner_in me (option_copied row.entry) then copy.old else []) }
+/// The copies of the partitions that the node owns in these rows stay, and the others are emptied.
+fn keep_owned(node: &mut Node, rows: &[Row]) -> Mem<()>
+    ensures { OnOk result (node.new ≡ record node.old { stores = kept_copies node.old.me node.old.stores rows.now }) }
 {
-    if !owns(me, row) {
-        *copy = Table::new(alloc);
-    }
-}
-
-/// The copies of the partitions that this node owns stay, and the others are emptied.
-fn keep_copies(alloc: Global, me: NodeId, copies: &mut Vec<Store>, rows: &[Row])
-    ensures { copies.new.items ≡ kept_copies me copies.old.items rows.now }
-{
-    for (part, copy) in copies.iter_mut().enumerate() {
-        keep_copy(alloc, me, copy, rows.get(part));
-    }
+    let owned = owned_parts(node.alloc, node.state.me, rows)?;
+    node.keep_copies(owned.as_slice());
+    Ok(())
 }
 
 /// Whether a share is kept of a commit that has ended.
@@ -88,13 +78,10 @@ pub fn install(node: &mut Node, map: PartMap) -> Mem<()>
     let noted = map.copy(alloc)?;
     let txs = committed_shares(alloc, &node.state.shares)?;
     let names = committed_backups(alloc, &node.state.backups)?;
-    let stores = mem::replace(&mut node.state.stores, List::new(alloc));
-    let mut copies = stores.into_vec();
-    keep_copies(alloc, node.state.me, &mut copies, map.rows.as_slice());
-    node.state.stores = List::from_vec(copies);
+    keep_owned(node, map.rows.as_slice())?;
+    node.clear_near();
+    node.clear_readers();
     node.state.installed = Some(map);
-    node.state.near = Table::new(alloc);
-    node.state.readers = Table::new(alloc);
     remove_each(&mut node.state.shares, txs.as_slice());
     remove_each(&mut node.state.backups, names.as_slice());
     node.state.complete = Set::new(alloc);

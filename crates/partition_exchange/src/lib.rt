@@ -1,15 +1,12 @@
-//! The exchange of a topology version: what a node sees of the topology, its map and the opening of a version, and how the
-//! copies of movers are filled.
+//! The exchange of a topology version: what a node sees of the topology, its map and the opening of a version.
 #![tactic(auto)]
 
 mod coordinating;
-mod filling;
 mod installing;
 mod opening;
 mod seeing;
 
 pub use coordinating::{drop_single, on_full, on_installed, on_single};
-pub use filling::{may_switch, on_complete, on_demand, on_supply};
 pub use installing::install;
 pub use opening::on_opens;
 pub use seeing::{learn, learn_all};

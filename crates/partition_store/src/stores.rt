@@ -1,8 +1,9 @@
 //! The copies of all partitions.
 
-ghost use Rattle.std.specs.Prelude.{◌≡◌, [], IfOk, length, replicate, slice_get};
+ghost use Rattle.std.specs.Prelude.{◌≡◌, [], false, if◌then◌else◌, IfOk, length, replicate, slice_get, unwrap_or};
 ghost use Rattle.std.specs.Borrow.{sem};
 ghost use Rattle.std.specs.Option.{option_copied, option_copied_mut};
+ghost use Rattle.partition_store.specs.Keeping.{copies_kept};
 ghost use Rattle.partition_store.specs.Lending.{lends_copy};
 
 use crate::store::Store;
@@ -26,12 +27,31 @@ impl Model for Stores {
     ghost view = { λ stores. stores.stores.items };
 }
 
+/// Empties the copy unless it is to stay.
+fn keep_if(stays: Option<&bool>, store: &mut Store)
+    ensures { store.new ≡ (if unwrap_or (option_copied stays.entry) false then store.old else []) }
+{
+    match stays {
+        Some(true) => {}
+        _ => store.clear(),
+    }
+}
+
+/// Empties the copies that are not to stay.
+fn keep_each(stay: &[bool], stores: &mut Vec<Store>)
+    ensures { stores.new.items ≡ copies_kept stores.old.items stay.now }
+{
+    for (part, store) in stores.iter_mut().enumerate() {
+        keep_if(stay.get(part), store);
+    }
+}
+
 impl Stores {
     /// Empty copies of so many partitions.
-    pub fn new(alloc: Global, parts: u32) -> Mem<Stores>
+    pub fn new(alloc: Global, parts: usize) -> Mem<Stores>
         ensures { IfOk result (λ stores. stores ≡ replicate parts []) }
     {
-        let mut stores = Vec::with_capacity(alloc, parts as usize)?;
+        let mut stores = Vec::with_capacity(alloc, parts)?;
         for part in 0..parts {
             let _number = part;
             stores.push(Store::new(alloc))?;
@@ -44,6 +64,13 @@ impl Stores {
         ensures { result ≡ length self.now }
     {
         self.stores.len()
+    }
+
+    /// The copies, by their partitions' numbers.
+    pub fn as_slice(&self) -> &[Store]
+        ensures { result.now ≡ self.now }
+    {
+        self.stores.as_slice()
     }
 
     /// The copy of a partition.
@@ -59,6 +86,14 @@ impl Stores {
         ensures value { option_copied_mut result ≡ slice_get self.old part }
     {
         self.stores.get_mut(part as usize)
+    }
+
+    /// Empties the copies that are not to stay, by the partitions' numbers, and those of which nothing is said; it takes no
+    /// memory.
+    pub fn keep(&mut self, stay: &[bool])
+        ensures { self.new ≡ copies_kept self.old stay.now }
+    {
+        keep_each(stay, &mut self.stores);
     }
 
     /// The same copies once more.
@@ -106,6 +141,9 @@ mod tests {
             assert_eq!(rt; found, expected);
         }
         assert!(rt; stores.at_mut(3).is_none());
+        stores.keep([true].as_slice());
+        let emptied = stores.at(1).map(|store| store.get(&write.key).is_none());
+        assert_eq!(rt; emptied, Some(true));
         Ok(())
     }
 }

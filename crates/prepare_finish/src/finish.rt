@@ -11,24 +11,20 @@ ghost use Rattle.prepare_finish.specs.Waits.{near_waits_at};
 ghost use Rattle.ignite_types.specs.declared.placement.ShareState.TheVariants.{Committed, Prepared, Undoing};
 ghost use Rattle.ignite_types.specs.declared.message.Message.TheVariants as msg;
 
-use crate::locks::release_all;
 use crate::primary::{backups_for, stop_awaiting, without_me};
-use crate::readers::forget_reader;
 use ignite_types::{Key, List, Mem, Message, NodeId, Out, ShareState, Stored, TopVer, TxId};
 use node_state::{NearWait, OwnShare};
 use node_steps::{Node, backup_finish_outs, outs_to};
 use ordered_set::Set;
 use ordered_table::Table;
+use pessimistic_tx::release_all;
 use std::alloc::Global;
 
 /// The readers of a key but this node.
 fn readers_but_me(node: &Node, key: &Key) -> Mem<List<NodeId>>
     ensures { IfOk result (λ readers. readers ≡ readers_but_me node.now key.now) }
 {
-    match node.state.readers.get(key) {
-        Some(readers) => without_me(node, readers.as_slice()),
-        None => Ok(List::new(node.alloc)),
-    }
+    without_me(node, node.readers_of(key))
 }
 
 /// One update of this write to each reader of its key.
@@ -380,5 +376,6 @@ pub fn primary_saw_leave(node: &mut Node, left: NodeId) -> Mem<()>
 {
     let txs = own_txs(node)?;
     shares_saw_leave(node, left, txs.as_slice())?;
-    forget_reader(node.alloc, &mut node.state.readers, left)
+    node.forget_reader(left);
+    Ok(())
 }

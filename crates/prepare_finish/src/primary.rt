@@ -1,114 +1,20 @@
 //! Prepare at a primary.
 
 ghost use Rattle.std.specs.Prelude.{◌≡◌, IfOk, OnOk, filter, not};
-ghost use Rattle.act_rows.specs.Primary.{after_backup_prepared, after_begin_share, after_draw, after_forget, after_prepare, backup_prepare_outs, backups_for, drawn_writes, failed_check, first_changed, is_forgettable, last_drawn, wanted_keys, writes_held_by};
+ghost use Rattle.act_rows.specs.Primary.{after_backup_prepared, after_begin_share, after_draw, after_prepare, backup_prepare_outs, backups_for, drawn_writes, last_drawn, writes_held_by};
 ghost use Rattle.act_rows.specs.Steps.{on_share, share_of};
-ghost use Rattle.part_model.specs.Tables.{keys_where};
 ghost use Rattle.ignite_types.specs.Names.{node_cmp, same_node};
 ghost use Rattle.ordered_set.specs.Members.{without_member};
 
-use crate::locks::own_each;
+use backup_sync::forget;
 use ignite_types::{
-    CacheVersion, Fail, Key, List, Mem, Message, Mode, NodeId, Out, Share, ShareState, Stored,
-    TopVer, TxId, Value, Wanted,
+    CacheVersion, Key, List, Mem, Message, Mode, NodeId, Out, Share, ShareState, Stored, TopVer,
+    TxId, Value, Wanted,
 };
-use node_state::{BackupName, BackupShare, OwnShare};
-use node_steps::{Node, first_blocked, remove_each, version_of};
+use node_state::OwnShare;
+use node_steps::Node;
+use optimistic_tx::{check, own_each};
 use ordered_set::Set;
-use ordered_table::Table;
-use std::alloc::Global;
-use std::cmp::Ordering;
-
-/// Whether `other` is an earlier transaction of the same session whose share is Committed.
-fn is_old(tx: &TxId, other: &TxId, state: ShareState) -> bool
-    ensures { result ≡ is_forgettable tx.now other.now state }
-{
-    match state {
-        ShareState::Committed => {
-            tx.node == other.node && tx.session == other.session && other.number < tx.number
-        }
-        _ => false,
-    }
-}
-
-fn old_shares(alloc: Global, shares: &Table<TxId, OwnShare>, tx: &TxId) -> Mem<List<TxId>>
-    ensures { IfOk result (λ old. old ≡ keys_where (λ e. is_forgettable tx.now e.0 e.1.state) shares.now) }
-{
-    let mut old = List::new(alloc);
-    for (other, share) in shares.as_slice() {
-        if is_old(tx, other, share.state) {
-            old.push(*other)?;
-        }
-    }
-    Ok(old)
-}
-
-fn old_backups(
-    alloc: Global,
-    backups: &Table<BackupName, BackupShare>,
-    tx: &TxId,
-) -> Mem<List<BackupName>>
-    ensures { IfOk result (λ old. old ≡ keys_where (λ e. is_forgettable tx.now e.0.tx e.1.state) backups.now) }
-{
-    let mut old = List::new(alloc);
-    for (name, share) in backups.as_slice() {
-        if is_old(tx, &name.tx, share.state) {
-            old.push(*name)?;
-        }
-    }
-    Ok(old)
-}
-
-/// The earlier transactions of its session are forgotten where they are Committed.
-pub fn forget(node: &mut Node, tx: &TxId) -> Mem<()>
-    ensures { OnOk result (node.new ≡ after_forget node.old tx.now) }
-{
-    let shares = old_shares(node.alloc, &node.state.shares, tx)?;
-    let backups = old_backups(node.alloc, &node.state.backups, tx)?;
-    remove_each(&mut node.state.shares, shares.as_slice());
-    remove_each(&mut node.state.backups, backups.as_slice());
-    Ok(())
-}
-
-/// The first remembered version that differs from the copy's.
-fn first_changed(node: &Node, wanted: &[Wanted]) -> Option<Fail>
-    ensures { result ≡ first_changed node.now wanted.now }
-{
-    for want in wanted {
-        let has = version_of(&node.found_at(&want.key));
-        if let Some(had) = want.had {
-            match had.cmp(&has) {
-                Ordering::Equal => {}
-                _ => {
-                    let key = want.key;
-                    return Some(Fail::Changed { key, had, has });
-                }
-            }
-        }
-    }
-    None
-}
-
-fn wanted_keys(alloc: Global, wanted: &[Wanted]) -> Mem<List<Key>>
-    ensures { IfOk result (λ keys. keys ≡ wanted_keys wanted.now) }
-{
-    let mut keys = List::new(alloc);
-    for want in wanted {
-        keys.push(want.key)?;
-    }
-    Ok(keys)
-}
-
-/// The test of an optimistic prepare: another owner first, then a changed version.
-pub fn check(node: &Node, tx: &TxId, wanted: &[Wanted]) -> Mem<Option<Fail>>
-    ensures { IfOk result (λ fail. fail ≡ failed_check node.now tx.now wanted.now) }
-{
-    let keys = wanted_keys(node.alloc, wanted)?;
-    match first_blocked(&node.state.queues, keys.as_slice(), tx) {
-        Some((key, holder)) => Ok(Some(Fail::Candidate { key, holder })),
-        None => Ok(first_changed(node, wanted)),
-    }
-}
 
 /// The written entries with the versions that are drawn for them, and the last number drawn.
 fn draw(node: &Node, top: TopVer, writes: &[(Key, Option<Value>)]) -> Mem<(List<Stored>, u64)>

@@ -11,7 +11,7 @@ ghost use Rattle.act_rows.specs.Recovery.{backup_shares, backup_txs, held_backup
 ghost use Rattle.act_rows.specs.Steps.{share_of};
 
 use ignite_types::{List, Mem, NodeId, Orphan, Share, ShareState, TxId};
-use node_steps::{Node, add_transactions, standing_in};
+use node_steps::{Node, add_transactions};
 use ordered_set::Set;
 use ordered_table::Table;
 
@@ -41,7 +41,7 @@ fn backup_txs(node: &Node) -> Mem<List<TxId>>
 fn held_txs(node: &Node) -> Mem<Set<TxId>>
     ensures { IfOk result (λ txs. txs ≡ held_txs node.now) }
 {
-    let mut txs = standing_in(node.alloc, &node.state.queues)?;
+    let mut txs = node.standing()?;
     add_transactions(&mut txs, own_txs(node)?.as_slice())?;
     add_transactions(&mut txs, backup_txs(node)?.as_slice())?;
     Ok(txs)
@@ -140,7 +140,7 @@ fn orphans_among(node: &Node, standing: &Set<TxId>, txs: &[TxId]) -> Mem<List<Or
 pub fn orphans_of(node: &Node) -> Mem<List<Orphan>>
     ensures { IfOk result (λ orphans. orphans ≡ orphans_of node.now) }
 {
-    let standing = standing_in(node.alloc, &node.state.queues)?;
+    let standing = node.standing()?;
     let txs = orphan_txs(node)?;
     orphans_among(node, &standing, txs.as_slice())
 }

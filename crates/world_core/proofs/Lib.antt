@@ -1,1 +1,2 @@
 pub mod ActsLaws
+pub mod FirstWaits

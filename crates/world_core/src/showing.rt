@@ -12,7 +12,7 @@ use ignite_types::{Event, NodeId, TxId};
 use link_memory::Inbox;
 use node_core::{may_answer, may_call, may_send, session_over};
 use node_state::Life;
-use partition_exchange::may_switch;
+use rebalance::may_switch;
 
 /// Whether a message of the sender can be taken out of the inbox.
 pub(crate) fn can_take(from: NodeId, inbox: Option<&Inbox>) -> bool

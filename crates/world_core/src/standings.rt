@@ -3,50 +3,17 @@
 ghost use Rattle.std.specs.Prelude.{◌≡◌, map, None, Some, IfOk};
 ghost use Rattle.std.specs.Option.{option_copied};
 ghost use Rattle.act_rows.specs.Steps.{entry_of};
-ghost use Rattle.tx_model.specs.Outlooks.{earlier_tx, first_older, held_link, held_link_from, holds_up, is_earlier, is_kept_back, older_among, or_standing, outlook, standing_at, standing_before_start, standing_by_tx, standing_of, standing_of_session_state, standing_of_waiting, standing_queued_at, standing_queued_in, standing_unless_lost, standing_unopened, wait_behind, wait_in};
+ghost use Rattle.tx_model.specs.Outlooks.{earlier_tx, first_older, held_link, held_link_from, holds_up, is_earlier, is_kept_back, older_among, or_standing, outlook, standing_at, standing_before_start, standing_by_tx, standing_of, standing_of_session_state, standing_of_waiting, standing_queued_at, standing_queued_in, standing_unless_lost, standing_unopened};
 ghost use Rattle.tx_model.specs.World.{node_ids, sessions};
 
 use crate::parts::{Part, is_alive};
 use crate::world::World;
-use ignite_types::{Key, List, Mem, NodeId, TopVer, TxId, Wait};
+use client_sessions::session_state_over;
+use ignite_types::{List, Mem, NodeId, TopVer, TxId};
 use link_memory::Inbox;
-use near_side::session_state_over;
 use node_core::Node;
 use node_state::{Life, TxEntry, TxState};
-use node_steps::stands_in;
 use tx_model::{Outlook, Standing};
-
-/// The transaction's wait at a key: it stands there behind the owner.
-fn wait_behind(tx: &TxId, key: &Key, queue: &[TxId]) -> Option<Wait>
-    ensures { result ≡ wait_behind tx.now key.now queue.now }
-{
-    match queue.split_first() {
-        Some((owner, waiters)) => {
-            if stands_in(tx, waiters) {
-                Some(Wait {
-                    key: *key,
-                    waiter: *tx,
-                    holder: *owner,
-                })
-            } else {
-                None
-            }
-        }
-        None => None,
-    }
-}
-
-/// The transaction's first wait in these queues.
-fn wait_in(tx: &TxId, queues: &[(Key, List<TxId>)]) -> Option<Wait>
-    ensures { result ≡ wait_in tx.now queues.now }
-{
-    for (key, queue) in queues {
-        if let Some(wait) = wait_behind(tx, key, queue.as_slice()) {
-            return Some(wait);
-        }
-    }
-    None
-}
 
 /// Whether the transaction has started in an older version, and has not ended.
 fn holds_up(seen: TopVer, entry: &TxEntry) -> bool
@@ -102,13 +69,14 @@ fn first_older(seen: TopVer, best: Option<TxId>, txs: &[(TxId, TxEntry)]) -> Opt
 
 impl Part {
     /// The transaction's wait here, if this node is alive.
+    #[tactic(auto, using(crate::proofs::FirstWaits::first_wait_in))]
     fn queued(&self, tx: &TxId) -> Option<Standing>
         ensures { result ≡ standing_queued_at tx.now self.now }
     {
         if !is_alive(self.life) {
             return None;
         }
-        match wait_in(tx, self.node.state.queues.as_slice()) {
+        match self.node.first_wait(tx) {
             Some(wait) => Some(Standing::Queued(self.node.state.me, wait)),
             None => None,
         }

@@ -96,7 +96,7 @@ impl World {
     }
 
     /// The node with this number, where it is alive.
-    pub(crate) fn node_at(&self, id: NodeId) -> Option<&Node>
+    pub fn node_at(&self, id: NodeId) -> Option<&Node>
         ensures { option_copied result ≡ node_at self.now.now id }
     {
         match self.part_on(self.live_place(id)) {

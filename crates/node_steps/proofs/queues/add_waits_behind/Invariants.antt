@@ -1,6 +1,0 @@
-use Rattle.std.proofs.Common.{drop, ◌++◌, ◌≡◌}
-use Rattle.part_model.specs.Queues.{waits_behind}
-use Rattle.node_steps.proofs.queues.add_waits_behind.Given as goal
-
-abbrev pub invariant-loop-waiter : goal.invariant-loop-waiter
-invariant-loop-waiter l = l.waits ++ waits_behind l.key l.owner l.of (drop l.waiter-index l.waiters) ≡ l.initial.waits ++ waits_behind l.key l.owner l.of l.waiters

@@ -1,4 +1,0 @@
-pub mod Changed
-pub mod Touches
-pub mod Transactions
-pub mod Takes
