@@ -50,10 +50,10 @@ use Rattle.ignite_types.specs.declared.journal.TopoEvent.TheVariants as topo
 use Rattle.ignite_types.specs.declared.message.Message.TheVariants as msg
 use Rattle.node_state.specs.declared.life.Life.TheVariants as life
 
-finished_leaves : (s : NodeState) (from : NodeId) (tx : TxId) → LeavesMaps s (after_finished s from tx)
+pub finished_leaves : (s : NodeState) (from : NodeId) (tx : TxId) → LeavesMaps s (after_finished s from tx)
 finished_leaves s from tx = andthen s (after_finished_at_starter s from tx) (after_finished s from tx) (near_finished_kept LeavesMaps leaving s from tx) (recovery_finished_kept LeavesMaps leaving (after_finished_at_starter s from tx) from tx)
 
-backup_finished_leaves : (s : NodeState) (from : NodeId) (tx : TxId) (primary : NodeId) → LeavesMaps s (after_backup_finished s from tx primary)
+pub backup_finished_leaves : (s : NodeState) (from : NodeId) (tx : TxId) (primary : NodeId) → LeavesMaps s (after_backup_finished s from tx primary)
 backup_finished_leaves s from tx primary =
     let own = after_backup_finished_at_primary s from tx primary in
     let near = after_backup_finished_at_starter own from tx primary in
@@ -116,22 +116,22 @@ acts_maps sc n s b r l i = leaves_good sc n s b l (ready_maps sc n s r i)
 
 -- A message is taken.
 module _ (sc : Scene) (n : NodeId) (s : NodeState) (from : NodeId) (sound : IsSound sc) (r : IsReady sc n s) (i : TopologyAndMaps sc) where
-  abbrev after : Message → Scene
+  abbrev pub after : Message → Scene
   after m = scene_after_take sc from n m
 
-  ready_after : (m : Message) → IsReady (after m) n s
+  pub ready_after : (m : Message) → IsReady (after m) n s
   ready_after m = record { alive = r.alive; me_is = r.me_is; none_noted = r.none_noted; state_is = r.state_is }
 
-  none_noted : (m : Message) → (scene_in_act (after m) n s).recs ≡ (after m).recs
+  pub none_noted : (m : Message) → (scene_in_act (after m) n s).recs ≡ (after m).recs
   none_noted m = ap (λ (rs : List Rec). (after m).recs ++ noted_by (Some n) rs) r.none_noted ∙ append_none (after m).recs
 
-  own_lives : (m : Message) → is_lost (scene_in_act (after m) n s).recs n ≡ false
+  pub own_lives : (m : Message) → is_lost (scene_in_act (after m) n s).recs n ≡ false
   own_lives m = ap (λ (rs : List Noted). is_lost rs n) (none_noted m) ∙ lost_same sc.recs (one_record (Some n) (note.Deliver from m)) n (λ x. refl) ∙ sound.alive_kept n (ap is_alive r.alive)
 
   plain : (m : Message) → ((v : TopVer) → single_in v (note.Deliver from m) ≡ []) → sc.link from n ≡ m ∷ drop 1 (sc.link from n) → LeavesMaps s (after_message s from m) → MapsHoldInAct (after m) n (after_closing_rules (after_message s from m))
   plain m none first l = acts_maps (after m) n s (after_closing_rules (after_message s from m)) (ready_after m) (andthen s (after_message s from m) (after_closing_rules (after_message s from m)) l (closed_leaves (after_message s from m))) (taken_maps sc n from m none i.maps)
 
-  alive_or_mapless : (m : Message) → AliveOrMapless (after m)
+  pub alive_or_mapless : (m : Message) → AliveOrMapless (after m)
   alive_or_mapless m x lives = by (sc.life x) refl (sym (lost_same sc.recs (one_record (Some n) (note.Deliver from m)) x (λ y. refl)) ∙ lives)
     where
       by : (at : Life) → sc.life x ≡ at → is_lost sc.recs x ≡ false → (sc.life x ≡ life.Alive) ⊎ ((sc.state x).installed ≡ None)
@@ -139,7 +139,7 @@ module _ (sc : Scene) (n : NodeId) (s : NodeState) (from : NodeId) (sound : IsSo
       by life.Absent at l = inr (ap (λ (st : NodeState). st.installed) (sound.absent_fresh x at))
       by life.Gone at l = let gone = sound.gone_lost x (ap (λ (y : Life). is_gone y) at) in absurd (cc (gone, l))
 
-  sender_lives : (m : Message) → sc.link from n ≡ m ∷ drop 1 (sc.link from n) → (b : Bool) → is_lost sc.recs from ≡ b → is_lost sc.recs from ≡ false
+  pub sender_lives : (m : Message) → sc.link from n ≡ m ∷ drop 1 (sc.link from n) → (b : Bool) → is_lost sc.recs from ≡ b → is_lost sc.recs from ≡ false
   sender_lives m first true lost = let none = sound.from_lost from n lost in absurd (cc (none, first))
   sender_lives m first false lives = lives
 
@@ -193,7 +193,7 @@ module _ (sc : Scene) (n : NodeId) (s : NodeState) (from : NodeId) (sound : IsSo
 
 -- A joiner learns.
 
-learned_leaves : (es : List TopoEvent) (s : NodeState) → ((fold after_learn s es).caches ≡ s.caches) × ((fold after_learn s es).installed ≡ s.installed) × ((fold after_learn s es).singles ≡ s.singles)
+pub learned_leaves : (es : List TopoEvent) (s : NodeState) → ((fold after_learn s es).caches ≡ s.caches) × ((fold after_learn s es).installed ≡ s.installed) × ((fold after_learn s es).singles ≡ s.singles)
 learned_leaves [] s = (refl, refl, refl)
 learned_leaves (e ∷ es) s = let rest = learned_leaves es (after_learn s e) in (rest.0, rest.1, rest.2)
 

@@ -52,14 +52,14 @@ module _ (sc : Scene) (id : NodeId) (sound : IsSound sc) (i : MapInvariant sc) w
   abbrev after : List Noted
   after = sc.recs ++ more
 
-  lost_now : (x : NodeId) → is_lost after x ≡ (is_lost sc.recs x || same_node id x)
+  pub lost_now : (x : NodeId) → is_lost after x ≡ (is_lost sc.recs x || same_node id x)
   lost_now x = lost_parts sc.recs more x ∙ ap (λ (c : Bool). is_lost sc.recs x || c) (or_none (same_node id x))
     where
       or_none : (c : Bool) → (c || false) ≡ c
       or_none true = refl
       or_none false = refl
 
-  lives_before : (x : NodeId) → is_lost after x ≡ false → (is_lost sc.recs x ≡ false) × (same_node id x ≡ false)
+  pub lives_before : (x : NodeId) → is_lost after x ≡ false → (is_lost sc.recs x ≡ false) × (same_node id x ≡ false)
   lives_before x lives = by (is_lost sc.recs x) (same_node id x) (sym (lost_now x) ∙ lives)
     where
       by : (a b : Bool) → (a || b) ≡ false → (a ≡ false) × (b ≡ false)

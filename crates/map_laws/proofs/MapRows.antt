@@ -83,33 +83,33 @@ abbrev pub AliveOrMapless : Scene → Type 0
 AliveOrMapless sc = (x : NodeId) → is_lost sc.recs x ≡ false → (sc.life x ≡ life.Alive) ⊎ ((sc.state x).installed ≡ None)
 
 module _ (sc : Scene) (n : NodeId) (s : NodeState) (good : HoldsInTopologyAct (topology_scene sc) n s) (may : may_compute s ≡ true) (known : AliveOrMapless sc) (none_lost : (x : NodeId) → is_lost (noted_by (Some n) s.noted) x ≡ false) (lives : is_lost (scene_in_act sc n s).recs n ≡ false) (i : MapsHoldInAct sc n s) where
-  abbrev recs : List Noted
+  abbrev pub recs : List Noted
   recs = (scene_in_act sc n s).recs
 
-  abbrev m : PartMap
+  abbrev pub m : PartMap
   m = next_map_seen s
 
   parts : ((is_oldest s && not (is_installed s s.seen)) ≡ true) × (all_sent s.members (singles_under s s.seen) ≡ true)
   parts = first_rest (is_oldest s && not (is_installed s s.seen)) (all_sent s.members (singles_under s s.seen)) may
 
-  above : IsAbove s.seen s.installed
+  pub above : IsAbove s.seen s.installed
   above = by s.installed (own_fits (topology_scene sc) n s good).map_fits (not_true (is_installed s s.seen) (first_rest (is_oldest s) (not (is_installed s s.seen)) parts.0).1)
     where
       by : (o : Option PartMap) → MapFits (topology_in_act (topology_scene sc) n s) (topology_state s).known o → is_installed (record s { installed = o }) s.seen ≡ false → IsAbove s.seen o
       by None fits none = tt
       by (Some x) fits none = apart_below x.top s.seen fits.1 none
 
-  brought : singles_under s s.seen ≡ singles_at recs n s.seen
+  pub brought : singles_under s s.seen ≡ singles_at recs n s.seen
   brought = (own_maps sc n s i lives).singles_are s.seen above
 
   -- the last version seen
-  abbrev seen : Topology
+  abbrev pub seen : Topology
   seen = (topology_state s).known
 
-  abbrev seen_at : Topology
+  abbrev pub seen_at : Topology
   seen_at = topology_after_events sc.scenario sc.directory.events s.read
 
-  known_is : seen ≡ seen_at
+  pub known_is : seen ≡ seen_at
   known_is = (own_fits (topology_scene sc) n s good).known_is
 
   caches_are : s.caches ≡ sc.scenario.caches
@@ -118,10 +118,10 @@ module _ (sc : Scene) (n : NodeId) (s : NodeState) (good : HoldsInTopologyAct (t
   not_lost_before : (x : NodeId) → is_lost recs x ≡ false → is_lost sc.recs x ≡ false
   not_lost_before x l = sym (lost_same sc.recs (noted_by (Some n) s.noted) x none_lost) ∙ l
 
-  abbrev base : Option PartMap
+  abbrev pub base : Option PartMap
   base = newest_map_from None (singles_under s s.seen)
 
-  none_above : (x : NodeId) → is_lost recs x ≡ false → HasNoneAbove sc.scenario recs base x
+  pub none_above : (x : NodeId) → is_lost recs x ≡ false → HasNoneAbove sc.scenario recs base x
   none_above x l = by (same_node n x) refl
     where
       best : (f : TopologyState) → (topology_in_act (topology_scene sc) n s).seat x ≡ Some (record { life = life.Alive; state = f }) → IsNoHigherMap f.installed base
@@ -145,7 +145,7 @@ module _ (sc : Scene) (n : NodeId) (s : NodeState) (good : HoldsInTopologyAct (t
       by false other =
           none_by (sc.state x).caches (sc.state x).installed (sc.state x).singles (other_maps sc n s i x other l) (other_low other (known x (not_lost_before x l)))
 
-  computed : IsComputedMap sc.scenario sc.directory.events recs m
+  pub computed : IsComputedMap sc.scenario sc.directory.events recs m
   computed = record {
     place = s.read;
     within = (own_fits (topology_scene sc) n s good).within;

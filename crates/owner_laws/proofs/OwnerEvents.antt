@@ -56,10 +56,10 @@ not_still (x ∷ es) e other = by (is_minor x) (not_still es e other)
     by false rest = refl
 
 -- after such an event topology stands still no more
-moves_on : (es : List TopoEvent) (e : TopoEvent) → is_minor e ≡ false → stands_still (es ++ e ∷ []) ≡ true → ⊥
+pub moves_on : (es : List TopoEvent) (e : TopoEvent) → is_minor e ≡ false → stands_still (es ++ e ∷ []) ≡ true → ⊥
 moves_on es e other still = let moved = not_still es e other in cc (moved, still)
 
-switch_minor : (e : TopoEvent) → is_cache_switch e ≡ true → is_minor e ≡ false
+pub switch_minor : (e : TopoEvent) → is_cache_switch e ≡ true → is_minor e ≡ false
 switch_minor (topo.Start cache) is = refl
 switch_minor (topo.Stop cache) is = refl
 switch_minor topo.Minor is = absurd (cc (is))
@@ -105,14 +105,14 @@ map_moves s = opening_moves (servers s.nodes) (running_from 0 s.caches) 0 s.cach
 -- Each event.
 
 module _ (k : ℕ) (few : k < 2 ^ 62) where
-  lead : EachEventLeads (StarterInvariant k) (StarterInvariant (suc k))
+  pub lead : EachEventLeads (StarterInvariant k) (StarterInvariant (suc k))
   lead = starters_lead k few
 
-  own_lives : (sc : Scene) (n : NodeId) (s : NodeState) → IsSound sc → IsReady sc n s → is_lost sc.recs n ≡ false
+  pub own_lives : (sc : Scene) (n : NodeId) (s : NodeState) → IsSound sc → IsReady sc n s → is_lost sc.recs n ≡ false
   own_lives sc n s sound r = sound.alive_kept n (ap is_alive r.alive)
 
   -- what the starters' part knows when an act begins
-  held : (sc : Scene) (n : NodeId) (s : NodeState) (sound : IsSound sc) (r : IsReady sc n s) → StarterInvariant k sc → Held (past_of k sc n) (own_lives sc n s sound r) s
+  pub held : (sc : Scene) (n : NodeId) (s : NodeState) (sound : IsSound sc) (r : IsReady sc n s) → StarterInvariant k sc → Held (past_of k sc n) (own_lives sc n s sound r) s
   held sc n s sound r i = ready k sc n s (own_lives sc n s sound r) r i
 
   answers_lead : (sc : Scene) (n : NodeId) (s : NodeState) (session : ℕ) → IsSound sc → IsReady sc n s → OwnerInvariant k sc → (let next = scene_with_directory sc (with_answer_given sc.directory) in stands_still next.directory.events ≡ true → OwnersFit (scene_in_act next n (after_answer s session)))
@@ -153,15 +153,15 @@ module _ (k : ℕ) (few : k < 2 ^ 62) where
       acts_fit k sc n s (after_closing_rules (after_expire s tx)) r me h.starter (expire_act_both (recs_of n sc.recs) k (map_of sc) (around sc) s tx due) (i.owners still)
 
   -- no event is there to be seen
-  none_seen : (sc : Scene) (place : ℕ) (e : TopoEvent) → slice_get sc.directory.events place ≡ Some e → OwnersFit sc → ⊥
+  pub none_seen : (sc : Scene) (place : ℕ) (e : TopoEvent) → slice_get sc.directory.events place ≡ Some e → OwnersFit sc → ⊥
   none_seen sc place e there f = let none = ap (λ (es : List TopoEvent). slice_get es place) f.no_event in cc (there, none)
 
-  no_switch : (sc : Scene) (n : NodeId) (s : NodeState) → IsReady sc n s → may_switch s ≡ true → OwnersFit sc → ⊥
+  pub no_switch : (sc : Scene) (n : NodeId) (s : NodeState) → IsReady sc n s → may_switch s ≡ true → OwnersFit sc → ⊥
   no_switch sc n s r may f =
       let stands : NodeStands (map_of sc) (state_at_rest s) = subst (NodeStands (map_of sc)) r.state_is (f.nodes n r.alive) in
       never_switches s (map_of sc) stands.installed (map_moves sc.scenario) may
 
-  still_before : (es : List TopoEvent) (e : TopoEvent) → stands_still (es ++ e ∷ []) ≡ true → stands_still es ≡ true
+  pub still_before : (es : List TopoEvent) (e : TopoEvent) → stands_still (es ++ e ∷ []) ≡ true → stands_still es ≡ true
   still_before [] e all = refl
   still_before (x ∷ es) e all = let both = first_rest (is_minor x) (stands_still (es ++ e ∷ [])) all in rw both.0 (still_before es e both.1)
 

@@ -59,7 +59,7 @@ module _ (plan : List PlanStep) (is : list_all (λ (p : PlanStep). leaves_topolo
   group_still rs (event.Minor id) = refl
   group_still rs _ = recs_still rs
 
-  groups_still : (gs : List Group) → stands_still (flat_map (λ (g : Group). events_of plan g.recs g.event) gs) ≡ true
+  pub groups_still : (gs : List Group) → stands_still (flat_map (λ (g : Group). events_of plan g.recs g.event) gs) ≡ true
   groups_still [] = refl
   groups_still (g ∷ gs) = all_of_both is_minor (events_of plan g.recs g.event) (flat_map (λ (x : Group). events_of plan x.recs x.event) gs) (group_still g.recs g.event) (groups_still gs)
 

@@ -39,7 +39,7 @@ around sc = record { others = sc.state; link = sc.link }
 
 -- what is looked at of a state is the same before a node acts
 module _ (sc : Scene) (n : NodeId) (s : NodeState) (me : s.me ≡ n) (is : sc.state n ≡ state_at_rest s) where
-  before : {A : Type 0} (f : NodeState → A) → f (state_at_rest s) ≡ f s → (x : NodeId) → of_node s.me (f s) x (f (sc.state x)) ≡ f (sc.state x)
+  pub before : {A : Type 0} (f : NodeState → A) → f (state_at_rest s) ≡ f s → (x : NodeId) → of_node s.me (f s) x (f (sc.state x)) ≡ f (sc.state x)
   before f rest x = by (same_node x s.me) refl
     where
       by : (c : Bool) → same_node x s.me ≡ c → (if c then f s else f (sc.state x)) ≡ f (sc.state x)
@@ -57,7 +57,7 @@ module _ (sc : Scene) (n : NodeId) (s : NodeState) (me : s.me ≡ n) (is : sc.st
 
 -- and after its act
 module _ (sc : Scene) (n : NodeId) (s : NodeState) (me : s.me ≡ n) where
-  after : {A : Type 0} (f : NodeState → A) → f (state_at_rest s) ≡ f s → (x : NodeId) → of_node s.me (f s) x (f (sc.state x)) ≡ f (states_with n (state_at_rest s) sc.state x)
+  pub after : {A : Type 0} (f : NodeState → A) → f (state_at_rest s) ≡ f s → (x : NodeId) → of_node s.me (f s) x (f (sc.state x)) ≡ f (states_with n (state_at_rest s) sc.state x)
   after f rest x = ap (λ (c : Bool). if c then f s else f (sc.state x)) (ap (same_node x) me ∙ turned x n) ∙ by (same_node n x)
     where
       by : (c : Bool) → (if c then f s else f (sc.state x)) ≡ f (either_state c (state_at_rest s) (sc.state x))
@@ -139,10 +139,10 @@ takes_fit k sc n s from m r first me near f =
 -- A message leaves the outbox: it lies on the link then, or is lost.
 
 module _ (sc : Scene) (n : NodeId) (s : NodeState) (out : Out) (r : IsReady sc n s) (first : s.outbox ≡ out ∷ drop 1 s.outbox) where
-  abbrev sender : NodeState
+  abbrev pub sender : NodeState
   sender = record s { outbox = drop 1 s.outbox }
 
-  stays : {A : Type 0} (f : NodeState → A) → f (state_at_rest sender) ≡ f (state_at_rest s) → (x : NodeId) → f (sc.state x) ≡ f (states_with n (state_at_rest sender) sc.state x)
+  pub stays : {A : Type 0} (f : NodeState → A) → f (state_at_rest sender) ≡ f (state_at_rest s) → (x : NodeId) → f (sc.state x) ≡ f (states_with n (state_at_rest sender) sc.state x)
   stays f same x = by (same_node n x) refl
     where
       by : (c : Bool) → same_node n x ≡ c → f (sc.state x) ≡ f (either_state c (state_at_rest sender) (sc.state x))
@@ -152,7 +152,7 @@ module _ (sc : Scene) (n : NodeId) (s : NodeState) (out : Out) (r : IsReady sc n
   outbox_is : (a : NodeId) → same_node n a ≡ true → (sc.state a).outbox ≡ out ∷ drop 1 s.outbox
   outbox_is a is = ap (λ (y : NodeId). (sc.state y).outbox) (sym (same_node_true n a is)) ∙ ap (λ (st : NodeState). st.outbox) r.state_is ∙ first
 
-  moved_flight : (a b : NodeId) → sc.link a b ++ outbox_for b (sc.state a).outbox ≡ links_after_send n out.to out.msg sc.link a b ++ outbox_for b (states_with n (state_at_rest sender) sc.state a).outbox
+  pub moved_flight : (a b : NodeId) → sc.link a b ++ outbox_for b (sc.state a).outbox ≡ links_after_send n out.to out.msg sc.link a b ++ outbox_for b (states_with n (state_at_rest sender) sc.state a).outbox
   moved_flight a b = by (same_node n a) refl (same_node out.to b) refl
     where
       by : (c : Bool) → same_node n a ≡ c → (d : Bool) → same_node out.to b ≡ d
@@ -182,11 +182,11 @@ module _ (sc : Scene) (n : NodeId) (s : NodeState) (out : Out) (r : IsReady sc n
   moves_fit f = record { no_event = f.no_event; locks = subst (Locks (map_of sc)) moved_view f.locks; nodes = λ x alive. sender_stands f x alive }
 
   -- one fewer on its way
-  abbrev IsRest : NodeId → NodeId → Type 0
+  abbrev pub IsRest : NodeId → NodeId → Type 0
   IsRest a b = let now = (lock_view (scene_in_act (scene_after_drop sc n out) n sender)).flight a b in
       (now ≡ (lock_view sc).flight a b) ⊎ ((earlier : List Message) × (later : List Message) × ((lock_view sc).flight a b ≡ earlier ++ out.msg ∷ later) × (now ≡ earlier ++ later))
 
-  dropped : (a b : NodeId) → IsRest a b
+  pub dropped : (a b : NodeId) → IsRest a b
   dropped a b = by (same_node n a) refl (same_node out.to b) refl
     where
       by : (c : Bool) → same_node n a ≡ c → (d : Bool) → same_node out.to b ≡ d → let now = sc.link a b ++ outbox_for b (either_state c (state_at_rest sender) (sc.state a)).outbox in

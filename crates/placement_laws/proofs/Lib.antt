@@ -1,2 +1,3 @@
+pub mod MemberRows
 pub mod PlacementLaws
 pub mod Rows

@@ -45,7 +45,7 @@ cache_length servers true c = ideal_length servers c.backups 0 c.parts
 cache_length servers false c = bare_length c.parts
 
 -- the same test of numbers
-same_test : (number : ℕ) (running : List ℕ) → list_any (λ (r : ℕ). r == number) running ≡ list_any (nat_eq number) running
+pub same_test : (number : ℕ) (running : List ℕ) → list_any (λ (r : ℕ). r == number) running ≡ list_any (nat_eq number) running
 same_test number [] = refl
 same_test number (r ∷ rs) = ap (λ (b : Bool). b || list_any (λ (x : ℕ). x == number) rs) (turned r number) ∙ ap (λ (b : Bool). nat_eq number r || b) (same_test number rs)
   where
@@ -90,7 +90,7 @@ bare_owned : (count : ℕ) → list_all (owned_as false) (bare_rows count) ≡ t
 bare_owned zero = refl
 bare_owned (suc more) = bare_owned more
 
-cache_owned : (server : NodeId) (servers : List NodeId) (runs : Bool) (c : Cache) → list_all (owned_as runs) (rows_of_cache (server ∷ servers) runs c) ≡ true
+pub cache_owned : (server : NodeId) (servers : List NodeId) (runs : Bool) (c : Cache) → list_all (owned_as runs) (rows_of_cache (server ∷ servers) runs c) ≡ true
 cache_owned server servers true c = ideal_owned server servers c.backups 0 c.parts
 cache_owned server servers false c = bare_owned c.parts
 
@@ -120,12 +120,12 @@ bare_next : (members : List Member) (singles : List Single) (version : TopVer) (
 bare_next members singles version part [] row none = refl
 bare_next members singles version part (o ∷ os) row none = absurd (cc (none))
 
-next_length : (members : List Member) (singles : List Single) (version : TopVer) (part : ℕ) (ideals rows : List Row) → length (next_rows members singles version part ideals rows) ≡ length ideals
+pub next_length : (members : List Member) (singles : List Single) (version : TopVer) (part : ℕ) (ideals rows : List Row) → length (next_rows members singles version part ideals rows) ≡ length ideals
 next_length members singles version part [] rows = refl
 next_length members singles version part (x ∷ xs) rows = ap suc (next_length members singles version (part + 1) xs (drop 1 rows))
 
 -- Next rows of a list of ideal rows in two parts are in two parts.
-next_front : (members : List Member) (singles : List Single) (version : TopVer) (part : ℕ) (xs ys rows : List Row) (count : ℕ) → length xs ≡ count
+pub next_front : (members : List Member) (singles : List Single) (version : TopVer) (part : ℕ) (xs ys rows : List Row) (count : ℕ) → length xs ≡ count
     → (take count (next_rows members singles version part (xs ++ ys) rows) ≡ next_rows members singles version part xs rows)
     × (drop count (next_rows members singles version part (xs ++ ys) rows) ≡ next_rows members singles version (part + count) ys (drop count rows))
 next_front members singles version part [] ys rows count size = subst (λ (n : ℕ). (take n (next_rows members singles version part ys rows) ≡ []) × (drop n (next_rows members singles version part ys rows) ≡ next_rows members singles version (part + n) ys (drop n rows))) size (refl, ap (λ (n : ℕ). next_rows members singles version n ys rows) (none_more part))

@@ -4,6 +4,7 @@ use Rattle.std.specs.Prelude.{Bool, None, Option, Some, [], drop, false, length,
 use Rattle.ignite_types.specs.declared.journal.Journal.{Journal}
 use Rattle.ignite_types.specs.declared.journal.Rec.{Rec}
 use Rattle.ignite_types.specs.declared.list.List.{List}
+use Rattle.ignite_types.specs.declared.names.NodeId.{NodeId}
 use Rattle.ignite_types.specs.declared.placement.PartMap.{PartMap}
 use Rattle.ignite_types.specs.declared.placement.Row.{Row}
 use Rattle.ignite_types.specs.declared.scenario.Cache.{Cache}
@@ -11,6 +12,7 @@ use Rattle.ignite_types.specs.declared.scenario.Scenario.{Scenario}
 use Rattle.journal_statements.specs.Maps.{has_owner}
 use Rattle.journal_statements.specs.Noted.{Noted, each_record, noted}
 use Rattle.journal_statements.specs.Topologies.{Topology, topologies, topology_of}
+use Rattle.part_model.specs.NextMap.{is_member}
 use Rattle.ignite_types.specs.declared.journal.Rec.TheVariants as note
 
 -- a partition of a cache that does not run has no owner
@@ -29,11 +31,25 @@ abbrev pub is_bare_in : Scenario → PartMap → Option Topology → Bool
 is_bare_in s m None = false
 is_bare_in s m (Some t) = bare_where_stopped t.running 0 s.caches m.rows
 
-abbrev pub installs_bare : Scenario → List Topology → Rec → Bool
-installs_bare s ts (note.Install m) = is_bare_in s m (topology_of ts m.top)
-installs_bare s ts r = true
+-- whether the test holds of the map that is installed, with the first topology of its version
+abbrev pub installs_fitting : (PartMap → Option Topology → Bool) → List Topology → Rec → Bool
+installs_fitting fits ts (note.Install m) = fits m (topology_of ts m.top)
+installs_fitting fits ts r = true
 
 -- each map that is installed has a row for each partition, and an owner only where the cache is one of its version
 abbrev pub owned_only_where_run : Journal → Bool
 owned_only_where_run j = let ts = topologies j in
-    each_record (λ (before : List Noted) (n : Noted). installs_bare j.scenario ts n.rec) (noted j.scenario j.groups)
+    each_record (λ (before : List Noted) (n : Noted). installs_fitting (is_bare_in j.scenario) ts n.rec) (noted j.scenario j.groups)
+
+-- the owners and movers of a row are such nodes
+abbrev pub holds_only : (NodeId → Bool) → Row → Bool
+holds_only is row = list_all is row.owners && list_all is row.movers
+
+abbrev pub is_held_by_members : PartMap → Option Topology → Bool
+is_held_by_members m None = false
+is_held_by_members m (Some t) = list_all (holds_only (is_member t.members)) m.rows
+
+-- in each map that is installed all owners and movers are members of its version
+abbrev pub held_by_members : Journal → Bool
+held_by_members j = let ts = topologies j in
+    each_record (λ (before : List Noted) (n : Noted). installs_fitting is_held_by_members ts n.rec) (noted j.scenario j.groups)

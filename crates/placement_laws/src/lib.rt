@@ -4,7 +4,7 @@
 ghost use Rattle.std.specs.Prelude.{◌≡◌, IsTrue, true};
 ghost use Rattle.ignite_types.specs.Good.{good};
 ghost use Rattle.journal_statements.specs.Maps.{opening_map_fits};
-ghost use Rattle.placement_laws.specs.PlacementLaws.{owned_only_where_run};
+ghost use Rattle.placement_laws.specs.PlacementLaws.{held_by_members, owned_only_where_run};
 ghost use Rattle.scenes.specs.EachRun.{IsRunOf, is_short_run};
 
 use map_laws::maps_are_next_maps;
@@ -21,4 +21,12 @@ pub fn stopped_caches_have_no_owner(events: u64) -> bool
     ensures law { result ≡ true → (j : _) → IsRunOf events j → owned_only_where_run j ≡ true }
 {
     maps_are_next_maps(events)
+}
+
+/// Whether the law covers runs of so many events: in each map that is installed all owners and movers are members of its version.
+pub fn members_hold_partitions(events: u64) -> bool
+    ensures covered { result ≡ is_short_run events }
+    ensures law { result ≡ true → (j : _) → IsRunOf events j → held_by_members j ≡ true }
+{
+    stopped_caches_have_no_owner(events)
 }

@@ -13,16 +13,21 @@ use Rattle.journal_statements.specs.MapLaws.{has_installed, is_install_of, membe
 use Rattle.journal_statements.specs.Noted.{Noted, each_from, is_lost, noted, recs_of}
 use Rattle.journal_statements.specs.Topologies.{Topology, topologies, topology_of}
 use Rattle.journal_statements.specs.Versions.{opened_before}
+use Rattle.commit_laws.proofs.CommitLaws.{applies_hold}
+use Rattle.coordinator_laws.proofs.CoordinatorLaws.{one_coordinator_holds}
 use Rattle.link_laws.proofs.Journals.{first_rest}
 use Rattle.link_laws.proofs.Runs.{links_hold}
 use Rattle.lock_laws.proofs.Runs.{one_holder_at_a_time}
-use Rattle.map_laws.proofs.MapLaws.{highest_bases_hold, next_maps_hold, rising_maps_hold}
+use Rattle.map_laws.proofs.MapLaws.{highest_bases_hold, rising_maps_hold}
 use Rattle.owner_laws.proofs.OwnerLaws.{are_tokens, owns_keys}
 use Rattle.part_model.specs.Orders.{is_node}
-use Rattle.placement_laws.proofs.PlacementLaws.{bare_holds, opening_map_holds}
+use Rattle.placement_laws.proofs.PlacementLaws.{members_hold}
 use Rattle.run_laws.proofs.Runs.{clocks_agree}
 use Rattle.run_promises.specs.RunPromises.{RunPromises}
 use Rattle.scenes.specs.EachRun.{IsRunOf, is_short_run}
+use Rattle.survivor_laws.proofs.MapsWhole.{maps_hold}
+use Rattle.survivor_laws.proofs.OwnersLeft.{owners_left_holds}
+use Rattle.told_laws.proofs.ToldLaws.{finds_reach_holds, starters_ask_holds}
 use Rattle.topology_laws.proofs.Laws.{one_map_holds, opens_after_all_holds, opens_once_holds}
 use Rattle.topology_laws.proofs.Records.{or_second}
 use Rattle.topology_laws.specs.TopologyFacts.{is_lost_or_has_installed}
@@ -30,6 +35,7 @@ use Rattle.topology_laws.specs.TopologyLaws.{all_have_map, is_opened_after_all}
 use Rattle.topology_laws.specs.TopologyScenes.{has_noted_map, is_install_of_version}
 use Rattle.transaction_laws.proofs.TransactionLaws.{commits_stand_holds, commits_stand_or_lost_holds, decided_once_holds, recovered_after_loss_holds, rising_names_hold, started_once_holds}
 use Rattle.tx_model.specs.Runs.{IsLegal}
+use Rattle.vote_laws.proofs.VoteLaws.{ends_stand, votes_stand}
 use Rattle.ignite_types.specs.declared.journal.Rec.TheVariants as note
 
 -- Versions open when each live member has installed their map.
@@ -70,14 +76,15 @@ pub promises_hold : (events : ℕ) → is_short_run events ≡ true → (j : Jou
 promises_hold events short j run = record {
   links = links_hold j run.is_good run.is_legal;
   one_holder = one_holder_at_a_time j run.is_legal;
+  maps = maps_hold events short j run;
   one_map = one_map_holds events short j run;
-  next_maps = next_maps_hold events short j run;
   highest_bases = highest_bases_hold events short j run;
   rising_maps = rising_maps_hold events short j run;
   opens_after_all = opens_after_all_holds events short j run;
   opened_when_installed = each_opening (topologies j) [] (noted j.scenario j.groups) (opens_after_all_holds events short j run);
-  opening_map_fits = opening_map_holds j.scenario run.is_good;
-  owned_only_where_run = bare_holds events short j run;
+  one_coordinator = one_coordinator_holds events short j run;
+  owners_left = owners_left_holds events short j run;
+  held_by_members = members_hold events short j run;
   opens_once = opens_once_holds events short j run;
   decided_once = decided_once_holds events short j run;
   recovered_after_loss = recovered_after_loss_holds events short j run;
@@ -85,8 +92,13 @@ promises_hold events short j run = record {
   commits_stand_without_losses = commits_stand_holds events short j run;
   started_once = started_once_holds events short j run;
   rising_names = rising_names_hold events short j run;
+  starters_ask = starters_ask_holds events short j run;
+  finds_reach_starters = finds_reach_holds events short j run;
+  applies_are_committed = applies_hold events short j run;
   keys_are_owned_in_still_topology = owns_keys events short j run;
   locks_are_tokens_in_still_topology = are_tokens events short j run;
+  votes_stand_in_still_topology = votes_stand events short j run;
+  ends_are_decided_in_still_topology = ends_stand events short j run;
   clocks_agree = clocks_agree j.scenario j.groups;
 }
 

@@ -1,18 +1,22 @@
 -- What is proved of the journal of every legal run of a good scenario, whatever the order of its events: one field a promise. The
 -- statements of journal_statements have their names there; docs/PROMISES.md says them in plain words.
 use Rattle.std.specs.Prelude.{true, ◌≡◌}
+use Rattle.commit_laws.specs.CommitLaws.{applies_are_committed}
 use Rattle.ignite_types.specs.declared.journal.Journal.{Journal}
 use Rattle.journal_statements.specs.LinkRecords.{links}
-use Rattle.journal_statements.specs.MapLaws.{opened_when_installed}
-use Rattle.journal_statements.specs.Maps.{opening_map_fits}
+use Rattle.journal_statements.specs.MapLaws.{one_coordinator, opened_when_installed, owners_left}
+use Rattle.journal_statements.specs.Maps.{maps}
+use Rattle.journal_statements.specs.Told.{finds_reach_starters}
 use Rattle.journal_statements.specs.Versions.{commits_stand}
 use Rattle.journal_statements.specs.Waits.{one_holder}
-use Rattle.map_laws.specs.MapLaws.{highest_bases, next_maps, rising_maps}
+use Rattle.map_laws.specs.MapLaws.{highest_bases, rising_maps}
 use Rattle.owner_laws.specs.OwnerLaws.{LocksAreTokens, OwnsItsKeys, topology_stands}
-use Rattle.placement_laws.specs.PlacementLaws.{owned_only_where_run}
+use Rattle.placement_laws.specs.PlacementLaws.{held_by_members}
 use Rattle.run_laws.specs.Staying.{ClocksAgree}
 use Rattle.scenes.specs.EachRun.{last_scene}
+use Rattle.told_laws.specs.ToldLaws.{starters_ask}
 use Rattle.topology_laws.specs.TopologyLaws.{OpensOnce, one_map, opens_after_all}
+use Rattle.vote_laws.specs.VoteLaws.{EndsStand, VotesStand}
 use Rattle.transaction_laws.specs.TransactionLaws.{commits_stand_or_lost, decided_once, has_no_loss, recovered_after_loss, rising_names, started_once}
 
 pub record RunPromises (j : Journal) : Type 0 where
@@ -22,10 +26,11 @@ pub record RunPromises (j : Journal) : Type 0 where
   -- at most one transaction holds a key at a node
   pub one_holder : one_holder j ≡ true
   -- Topology versions and maps.
+  -- a map is the one of its version, or the next map of one Single from each member, as its oldest member was brought them; there, and
+  -- in the map that the run begins with, a partition has an owner exactly where its cache is one of the version
+  pub maps : maps j ≡ true
   -- all maps of one version that nodes install are one map
   pub one_map : one_map j ≡ true
-  -- a map is the one of its version, or the next map of one Single from each member, as its oldest member was brought them
-  pub next_maps : next_maps j ≡ true
   -- the Singles of a version's first map have a map no lower than any that a node which is not lost has installed
   pub highest_bases : highest_bases j ≡ true
   -- each map that a node installs has a higher version than those before it there
@@ -33,10 +38,12 @@ pub record RunPromises (j : Journal) : Type 0 where
   -- where a version is opened each of its members is lost or has installed its map
   pub opens_after_all : opens_after_all j ≡ true
   pub opened_when_installed : opened_when_installed j ≡ true
-  -- in the map that the run begins with a partition has an owner exactly where its cache runs from the start; in later ones only
-  -- where the cache is one of the map's version
-  pub opening_map_fits : opening_map_fits j.scenario ≡ true
-  pub owned_only_where_run : owned_only_where_run j ≡ true
+  -- the map of a version is handed out, and its opening told, by the version's oldest member alone; the map is the installed one
+  pub one_coordinator : one_coordinator j ≡ true
+  -- in the highest map that is installed at a node which is not lost each partition that has owners has one that is not lost
+  pub owners_left : owners_left j ≡ true
+  -- all owners and movers of a map are members of its version
+  pub held_by_members : held_by_members j ≡ true
   -- no node opens a version twice
   pub opens_once : OpensOnce j
   -- Transactions.
@@ -52,10 +59,21 @@ pub record RunPromises (j : Journal) : Type 0 where
   pub started_once : started_once j ≡ true
   -- the numbers of a session's transactions rise, in the order in which they start
   pub rising_names : rising_names j ≡ true
+  -- wherever one is sent or taken: a request comes from its transaction's starter, and the answer goes to it
+  pub starters_ask : starters_ask j ≡ true
+  -- what is found for a transaction is delivered to its starter
+  pub finds_reach_starters : finds_reach_starters j ≡ true
+  -- each write that a node applies stands behind a commit decision of its transaction
+  pub applies_are_committed : applies_are_committed j ≡ true
   -- where topology stands still: at the end an undecided pessimistic transaction owns each key that it has accessed, or waits for it;
   -- its Lock of a key, its place in the key's queue and its LockOk are one token
   pub keys_are_owned_in_still_topology : topology_stands j.scenario ≡ true → OwnsItsKeys (last_scene j)
   pub locks_are_tokens_in_still_topology : topology_stands j.scenario ≡ true → LocksAreTokens (last_scene j)
+  -- there too: at the end each primary that an undecided transaction's starter has counted has its own share Prepared, and so has
+  -- each other holder that the starter names; what ends a transaction carries its starter's decision, and a commit meets a Prepared
+  -- share
+  pub votes_stand_in_still_topology : topology_stands j.scenario ≡ true → VotesStand (last_scene j)
+  pub ends_are_decided_in_still_topology : topology_stands j.scenario ≡ true → EndsStand (last_scene j)
   -- The clock.
   -- the clock of each node that is alive at the end is the directory's
   pub clocks_agree : ClocksAgree j.scenario j.groups

@@ -206,7 +206,7 @@ module _ (s : Scenario) (w : World) (plan_is : w.directory.plan ≡ s.plan) wher
 
 -- Each joiner has a place from the opening on.
 
-planned_member : (plan : List PlanStep) (k : ℕ) (x : PlanStep) (m : Member) → slice_get plan k ≡ Some x → x.step ≡ step.Join m → is_member (flat_map joiner_of plan) m.node ≡ true
+pub planned_member : (plan : List PlanStep) (k : ℕ) (x : PlanStep) (m : Member) → slice_get plan k ≡ Some x → x.step ≡ step.Join m → is_member (flat_map joiner_of plan) m.node ≡ true
 planned_member [] k x m there is = absurd (cc (there))
 planned_member (y ∷ ys) zero x m there is =
     let same : y ≡ x = cc (there) in

@@ -38,11 +38,12 @@ use Rattle.link_laws.proofs.Places.{some_is}
 use Rattle.node_state.specs.declared.life.Life.{Life}
 use Rattle.node_state.specs.Node.{NodeState}
 use Rattle.ordered_table.specs.Entries.{at}
-use Rattle.scenes.specs.Events.{EachEventLeads, IsReady, IsSound}
+use Rattle.scenes.specs.Events.{EachEventLeads, IsReady, IsSound, MayBeLost}
 use Rattle.scenes.specs.Scenes.{Scene, scene_in_act, state_at_rest, scene_after_drop, world_links, link_messages, scene_after_send, one_record, part_or_absent, links_after_send, lives_with, states_with, scene_of, scene_after_step, scene_with_directory as at_directory}
 use Rattle.scenes.proofs.Links.{links_here, links_held, links_popped, links_pushed, links_same}
 use Rattle.scenes.proofs.Lanes.{Full, lane_in}
 use Rattle.scenes.proofs.Learned.{learned_me}
+use Rattle.scenes.proofs.Losses.{may_be_lost}
 use Rattle.scenes.proofs.Parts.{part_there}
 use Rattle.scenes.proofs.Sounds.{alive_is}
 use Rattle.scenes.proofs.Worlds.{acted_scene, life_here, life_same, loss_scene, scene_set, state_here, state_same, tick_scene}
@@ -385,7 +386,7 @@ module _ (P Q : Scene → Type 0) (ev : EachEventLeads P Q) (s : Scenario) (recs
       by (Some k) place alive =
           let q = part_there w id k (record { node = sc.state id; life = life.Absent }) place in
           subst (λ (n : NodeId). Q (scene_of s (recs ++ (record { node = None; rec = note.Planned w.directory.done None } ∷ record { node = None; rec = note.Lost n } ∷ [])) (record (world_after_loss w n (Some k)) { directory = with_step_done (with_event w.directory (topo.Left n)) }))) q.2
-          (subst Q (sym (loss_scene s recs w k q.0 c.apart q.1)) (ev.loses sc q.0.node.me sound (ap sc.life q.2 ∙ alive) holds_now))
+          (subst Q (sym (loss_scene s recs w k q.0 c.apart q.1)) (ev.loses sc q.0.node.me sound (subst (MayBeLost sc) (sym q.2) (may_be_lost s recs w id c.apart alive because)) holds_now))
 
   step_goes : (x : PlanStep) (st : Step) → slice_get w.directory.plan w.directory.done ≡ Some x → x.step ≡ st → AfterPlan (step_outcome w w.directory st)
   step_goes x (step.Join m) at_hand is = join_goes x m (place_of w m.node) (part_on w (place_of w m.node)) at_hand is refl refl

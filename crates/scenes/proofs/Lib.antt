@@ -4,6 +4,7 @@ pub mod Events
 pub mod Lanes
 pub mod Learned
 pub mod Links
+pub mod Losses
 pub mod LostNodes
 pub mod Openings
 pub mod Parts

@@ -1,4 +1,5 @@
 -- What each event of a run owes, for a statement P of scenes that holds before it and Q that is to hold after it.
+use Rattle.std.specs.List.{list_all}
 use Rattle.std.specs.Prelude.{Bool, None, Option, Some, [], drop, false, length, suc, true, ℕ, ◌<◌, ◌^◌, ◌∷◌, ◌≡◌}
 use Rattle.act_rows.specs.Acts.{after_message, after_see, may_answer, may_call, with_act_begun}
 use Rattle.act_rows.specs.Closing.{after_closing_rules}
@@ -6,8 +7,8 @@ use Rattle.act_rows.specs.Commands.{after_answer, after_call}
 use Rattle.act_rows.specs.Exchange.{after_learn_all}
 use Rattle.act_rows.specs.Filling.{may_switch}
 use Rattle.act_rows.specs.Searches.{after_expire, is_overdue}
-use Rattle.part_model.specs.Directory.{event_at, with_answer_given, with_event}
-use Rattle.part_model.specs.NextMap.{is_member}
+use Rattle.part_model.specs.Directory.{event_at, survives, with_answer_given, with_event}
+use Rattle.part_model.specs.NextMap.{is_higher, is_member}
 use Rattle.ignite_types.specs.Names.{same_top}
 use Rattle.ignite_types.specs.declared.journal.NoLoss.{NoLoss}
 use Rattle.ignite_types.specs.declared.journal.TopoEvent.{TopoEvent}
@@ -15,11 +16,12 @@ use Rattle.ignite_types.specs.declared.message.Message.{Message}
 use Rattle.ignite_types.specs.declared.message.Out.{Out}
 use Rattle.ignite_types.specs.declared.names.NodeId.{NodeId}
 use Rattle.ignite_types.specs.declared.names.TxId.{TxId}
+use Rattle.ignite_types.specs.declared.placement.PartMap.{PartMap}
 use Rattle.ignite_types.specs.declared.scenario.Member.{Member}
 use Rattle.journal_statements.specs.Noted.{is_lost}
 use Rattle.link_laws.specs.Carrying.{is_gone}
 use Rattle.node_state.specs.Node.{NodeState}
-use Rattle.scenes.specs.Scenes.{Scene, scene_in_act, state_at_rest, scene_after_drop, absent_state, scene_after_join, scene_after_loss, scene_after_send, scene_with_records, one_record, scene_after_step, scene_after_take, scene_after_tick, scene_with_directory}
+use Rattle.scenes.specs.Scenes.{Scene, scene_in_act, state_at_rest, scene_after_drop, absent_state, scene_after_join, scene_after_loss, scene_after_send, scene_with_records, one_record, scene_after_step, scene_after_take, scene_after_tick, scene_with_directory, is_survivor}
 use Rattle.tx_model.specs.World.{is_alive}
 use Rattle.ignite_types.specs.declared.journal.Rec.TheVariants as note
 use Rattle.ignite_types.specs.declared.journal.TopoEvent.TheVariants as topo
@@ -46,6 +48,18 @@ pub record IsReady (sc : Scene) (n : NodeId) (s : NodeState) : Type 0 where
   pub me_is : s.me ≡ n
   pub none_noted : s.noted ≡ []
   pub state_is : sc.state n ≡ state_at_rest s
+
+-- a node that is alive and whose loss is not refused: some other one that is alive has a map, and of the highest of these each
+-- partition that has owners keeps one among the members
+pub record MayBeLost (sc : Scene) (n : NodeId) : Type 0 where
+  pub alive : sc.life n ≡ life.Alive
+  pub best : PartMap
+  pub at : NodeId
+  pub at_survives : is_survivor n at (sc.life at) ≡ true
+  pub has_best : (sc.state at).installed ≡ Some best
+  pub none_higher : (x : NodeId) (m : PartMap) → is_survivor n x (sc.life x) ≡ true → (sc.state x).installed ≡ Some m
+      → is_higher m.top best.top ≡ false
+  pub keeps_owners : list_all (survives sc.directory.members n) best.rows ≡ true
 
 -- a plan's start or stop of a cache
 abbrev pub is_cache_switch : TopoEvent → Bool
@@ -91,7 +105,7 @@ pub record EachEventLeads (P Q : Scene → Type 0) : Type 0 where
   pub joins : (sc : Scene) (m : Member) (s : NodeState) → IsSound sc → sc.life m.node ≡ life.Absent
       → is_lost sc.recs m.node ≡ false → sc.state m.node ≡ state_at_rest s → P sc
       → Q (scene_in_act (scene_after_join sc m) m.node (joiner_end sc m s))
-  pub loses : (sc : Scene) (n : NodeId) → IsSound sc → sc.life n ≡ life.Alive → P sc → Q (scene_after_loss sc n)
+  pub loses : (sc : Scene) (n : NodeId) → IsSound sc → MayBeLost sc n → P sc → Q (scene_after_loss sc n)
   pub plans : (sc : Scene) (refused : Option NoLoss) → IsSound sc → P sc → Q (scene_after_step sc sc.directory refused)
   pub starts : (sc : Scene) (e : TopoEvent) → IsSound sc → is_cache_switch e ≡ true → P sc
       → Q (scene_after_step sc (with_event sc.directory e) None)

@@ -16,7 +16,7 @@ use Rattle.ignite_types.specs.declared.names.TxId.{TxId}
 use Rattle.ignite_types.specs.declared.scenario.Member.{Member}
 use Rattle.journal_statements.specs.Noted.{is_lost}
 use Rattle.node_state.specs.Node.{NodeState}
-use Rattle.scenes.specs.Events.{joiner_end, IsReady, IsSound, is_cache_switch}
+use Rattle.scenes.specs.Events.{joiner_end, IsReady, IsSound, MayBeLost, is_cache_switch}
 use Rattle.scenes.specs.Scenes.{Scene, state_at_moment, state_at_rest, scene_after_join, one_record, plan_records, scene_after_take}
 use Rattle.scenes.specs.Views.{HoldsInAct, FlightView, view_after_loss, flight_view}
 use Rattle.tx_model.specs.World.{is_alive}
@@ -71,7 +71,7 @@ view_after_tick v to = record v {
 
 -- the rest
 pub record EachWorldEventKeeps (Inv : FlightView → Type 0) : Type 0 where
-  pub loses : (sc : Scene) (n : NodeId) → IsSound sc → sc.life n ≡ life.Alive → Inv (flight_view sc)
+  pub loses : (sc : Scene) (n : NodeId) → IsSound sc → MayBeLost sc n → Inv (flight_view sc)
       → Inv (view_after_loss n (plan_records sc None ++ one_record None (note.Lost n)) (flight_view sc))
   -- a message to a node that has not joined is lost
   pub drops : (v : FlightView) (flight : NodeId → NodeId → List Message) (from to : NodeId) → v.life to ≡ life.Absent

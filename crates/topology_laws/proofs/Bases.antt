@@ -24,15 +24,15 @@ use Rattle.link_laws.proofs.Journals.{first_rest}
 use Rattle.node_state.specs.Node.{NodeState}
 use Rattle.topology_laws.specs.TopologyFacts.{OldestHasMap, HoldsOfEach, IsMemberOf, MemberFits, NodeFits, is_leave_of, never_leaves, HasAtLeast, IsBehind, IsNoHigherMap, IsUpTo, MapFits, SingleTells, IsBelow}
 use Rattle.topology_laws.specs.TopologyInvariant.{HoldsInTopologyAct}
-use Rattle.topology_laws.specs.TopologyScenes.{TopologyScene, TopologyState, topology_at, topology_in_act, topology_state}
+use Rattle.topology_laws.specs.TopologyScenes.{TopologyScene, TopologyState, map_of, topology_at, topology_in_act, topology_state}
 use Rattle.topology_laws.proofs.Lists.{found_there}
 use Rattle.topology_laws.proofs.Rows.{below_seen, kept_under, node_shown, own_holds}
 use Rattle.topology_laws.proofs.Sounds.{last_split, left_drop, oldest_is_member, oldest_stays}
 use Rattle.topology_laws.proofs.Steps.{alive_fits, own_fits, put_same}
-use Rattle.topology_laws.proofs.Tops.{below_not_up, more_events, one_place, rises, top_at, up_both, up_itself, up_twice}
+use Rattle.topology_laws.proofs.Tops.{below_not_up, below_up, more_events, one_place, rises, top_at, up_both, up_itself, up_twice}
 use Rattle.node_state.specs.declared.life.Life.TheVariants as life
 
-higher_up : (a b : TopVer) → is_higher a b ≡ true → IsUpTo b a
+pub higher_up : (a b : TopVer) → is_higher a b ≡ true → IsUpTo b a
 higher_up a b high =
     (elim (nat_lt b.major a.major) as (λ r. nat_lt b.major a.major ≡ r → (r || ((a.major == b.major) && nat_lt b.minor a.minor)) ≡ true → IsUpTo b a) [
       | true ↦ λ t e. inl (grind (arith, nat_tests, t))
@@ -41,7 +41,7 @@ higher_up a b high =
           inr (grind (arith, nat_tests, both.0), grind (arith, nat_tests, both.1))
     ]) refl high
 
-not_higher_up : (a b : TopVer) → is_higher a b ≡ false → IsUpTo a b
+pub not_higher_up : (a b : TopVer) → is_higher a b ≡ false → IsUpTo a b
 not_higher_up a b low =
     (elim (nat_lt b.major a.major) as (λ r. nat_lt b.major a.major ≡ r → (r || ((a.major == b.major) && nat_lt b.minor a.minor)) ≡ false → IsUpTo a b) [
       | true ↦ λ t e. absurd (cc (e))
@@ -169,14 +169,14 @@ module _ (sc : TopologyScene) (n : NodeId) (s : NodeState) (good : HoldsInTopolo
 
   -- One that is alive and no member of the version seen has no map.
 
-  stays_in : (t : Topology) (es : List TopoEvent) (x : NodeId) → is_member t.members x ≡ true → never_leaves x es ≡ true → is_member (last_topology t es).members x ≡ true
+  pub stays_in : (t : Topology) (es : List TopoEvent) (x : NodeId) → is_member t.members x ≡ true → never_leaves x es ≡ true → is_member (last_topology t es).members x ≡ true
   stays_in t [] x is none = is
   stays_in t (e ∷ es) x is none =
       let both = first_rest (not (is_leave_of x e)) (never_leaves x es) none in
       stays_in (topology_after t e) es x (one_stays e t.members x is both.0) both.1
 
   -- what lies between two versions
-  between : (j k : ℕ) → j ≤ k → k ≤ length sc.events → topology_at sc k ≡ last_topology (topology_at sc j) (drop j (take k sc.events))
+  pub between : (j k : ℕ) → j ≤ k → k ≤ length sc.events → topology_at sc k ≡ last_topology (topology_at sc j) (drop j (take k sc.events))
   between j k low within =
       let xs = take k sc.events in
       let as_long = length-take-le k sc.events within in
@@ -185,8 +185,40 @@ module _ (sc : TopologyScene) (n : NodeId) (s : NodeState) (good : HoldsInTopolo
       ap (λ es. last_topology (first_topology sc.scenario) (take j es)) (sym (take-append-drop k sc.events)) ∙ more_events sc.scenario xs (drop k sc.events) j (omega (arith, as_long, low)) in
       ap (last_topology (first_topology sc.scenario)) split ∙ last_split (first_topology sc.scenario) (take j xs) (drop j xs) ∙ ap (λ t. last_topology t (drop j xs)) (sym first)
 
-  left_between : (x : NodeId) (j k : ℕ) → never_leaves x sc.events ≡ true → never_leaves x (drop j (take k sc.events)) ≡ true
+  pub left_between : (x : NodeId) (j k : ℕ) → never_leaves x sc.events ≡ true → never_leaves x (drop j (take k sc.events)) ≡ true
   left_between x j k none = left_drop x j (take k sc.events) (left_take x k sc.events none)
+
+  -- each version that has a map was seen
+  pub map_seen : (b : PartMap) → map_of (topology_in_act sc n s) b.top ≡ Some b → IsUpTo b.top s.seen
+  map_seen b is = let c = good.computed b.top b is in by_order (nat_le c.place s.read) c refl
+    where
+      seen : s.seen ≡ top_at sc.scenario sc.events s.read
+      seen = ap (λ (t : Topology). t.top) (own_fits sc n s good).known_is
+
+      up_places : (j k : ℕ) → j ≤ k → k ≤ length sc.events → (b : Bool) → nat_lt j k ≡ b → IsUpTo (top_at sc.scenario sc.events j) (top_at sc.scenario sc.events k)
+      up_places j k low within true less = below_up (top_at sc.scenario sc.events j) (top_at sc.scenario sc.events k) (rises sc.scenario sc.events j k good.few (grind (arith, nat_tests, less)) within)
+      up_places j k low within false not_less =
+          let same : j ≡ k = grind (arith, nat_tests, low, not_less) in
+          subst (λ (i : ℕ). IsUpTo (top_at sc.scenario sc.events j) (top_at sc.scenario sc.events i)) same (up_itself (top_at sc.scenario sc.events j))
+
+      by_order : (d : Bool) (c : OldestHasMap (topology_in_act sc n s) b.top) → nat_le c.place s.read ≡ d → IsUpTo b.top s.seen
+      by_order true c low =
+          let mine = own_fits sc n s good in
+          let le : c.place ≤ s.read = grind (arith, nat_tests, low) in
+          let up = up_places c.place s.read le mine.within (nat_lt c.place s.read) refl in
+          subst (λ (t : TopVer). IsUpTo b.top t) (sym seen) (subst (λ (t : TopVer). IsUpTo t (top_at sc.scenario sc.events s.read)) c.is_top up)
+      by_order false c high =
+          let mine = own_fits sc n s good in
+          let lt : s.read < c.place = grind (arith, nat_tests, high) in
+          let le : s.read ≤ c.place = omega (arith, lt) in
+          let first = first_rest (is_oldest s) (not (is_installed s s.seen)) parts.0 in
+          let oldest : oldest_member s.members ≡ Some n = node_shown n s.me (oldest_member s.members) mine.me_is first.0 in
+          let at_read : oldest_member (topology_at sc s.read).members ≡ Some n = sym (ap (λ (t : Topology). oldest_member t.members) mine.known_is) ∙ oldest in
+          let none = good.lefts n mine.not_lost in
+          let stays = oldest_stays (topology_at sc s.read) (drop s.read (take c.place sc.events)) n at_read (left_between n s.read c.place none) in
+          let by : oldest_member (topology_at sc c.place).members ≡ Some n = ap (λ (t : Topology). oldest_member t.members) (between s.read c.place le c.within) ∙ stays in
+          let has_it : HasAtLeast b.top s.installed = own_holds sc n s (λ (g : TopologyState). HasAtLeast b.top g.installed) good (c.by_oldest n by) in
+          below_seen sc n s s.installed mine.map_fits b.top has_it
 
   no_map_outside : (x : NodeId) (f : TopologyState) (m : PartMap) → is_member s.members x ≡ false → (topology_in_act sc n s).seat x ≡ Some (record { life = life.Alive; state = f }) → f.installed ≡ Some m → ⊥
   no_map_outside x f m outside at is =

@@ -17,7 +17,7 @@ use Rattle.journal_statements.specs.Topologies.{Topology}
 use Rattle.link_laws.proofs.Frames.{all_change}
 use Rattle.node_state.specs.declared.life.Life.{Life}
 use Rattle.node_state.specs.declared.topology.Exchange.{Exchange}
-use Rattle.topology_laws.specs.TopologyFacts.{AllHaveInstalled, OldestHasMap, HoldsOfEach, ExchangeFits, RecordsFitFrom, RecordFits, HasMap, HasSomeMap, HasSeen, IsExact, IsUnjoined, IsMemberOf, IsMapOfVersion, IsOldestMember, MapFits, MemberFits, NodeFits, OldestFits, PartFits, SingleTells, MessageTells, is_lost_or_has_installed, last_members}
+use Rattle.topology_laws.specs.TopologyFacts.{AllHaveInstalled, OldestHasMap, HoldsOfEach, ExchangeFits, RecordsFitFrom, RecordFits, HasMap, HasMapItself, HasSomeMap, HasSeen, IsExact, IsUnjoined, IsMemberOf, IsMapOfVersion, IsOldestMember, MapFits, MemberFits, NodeFits, OldestFits, PartFits, SingleTells, MessageTells, is_lost_or_has_installed, last_members}
 use Rattle.topology_laws.specs.TopologyScenes.{TopologyScene, TopologyState, has_noted_map, map_of, topology_at}
 use Rattle.topology_laws.proofs.Lists.{each_change}
 use Rattle.topology_laws.proofs.Records.{or_first, or_second}
@@ -81,8 +81,12 @@ module _ (a b : TopologyScene) (l : Later a b) where
   is_map_later None is = tt
   is_map_later (Some m) is = l.maps m.top m is
 
+  pub has_it_later : (n : NodeId) (m : Option PartMap) → HasMapItself a n m → HasMapItself b n m
+  has_it_later n None has = tt
+  has_it_later n (Some m) has = l.has_map m.top n has
+
   pub single_later : (from to : NodeId) (top : TopVer) (m : Option PartMap) → SingleTells a from to top m → SingleTells b from to top m
-  single_later from to top m t = (l.seen top from t.0, oldest_later top to t.1, is_map_later m t.2, l.exact from to top m t)
+  single_later from to top m t = (l.seen top from t.0, oldest_later top to t.1, is_map_later m t.2, l.exact from to top m t, has_it_later from m t.4)
 
   pub one_later : (top : TopVer) → HasSomeMap a top → HasSomeMap b top
   one_later top o = record { one = o.one; is_map = l.maps top o.one o.is_map }

@@ -32,7 +32,7 @@ use Rattle.link_laws.proofs.Places.{some_is}
 use Rattle.node_state.specs.Node.{NodeState}
 use Rattle.node_state.specs.declared.topology.Exchange.{Exchange}
 use Rattle.ordered_set.specs.Members.{has, with_member}
-use Rattle.topology_laws.specs.TopologyFacts.{AllHaveInstalled, HoldsOfEach, ExchangeFits, HasAtLeast, HasSomeMap, HasSeen, IsMemberOf, IsMapOfVersion, IsOldestMember, IsUpTo, IsAliveWith, IsLostOr, MapFits, OldestFits, SingleTells, MessageTells, opens_at, opens_in_exchange, is_opens_of, is_lost_or_has_installed, openings_to_come, openings_by, opens_on_link, opens_in_outbox}
+use Rattle.topology_laws.specs.TopologyFacts.{AllHaveInstalled, HoldsOfEach, ExchangeFits, HasAtLeast, HasMapItself, HasSomeMap, HasSeen, IsMemberOf, IsMapOfVersion, IsOldestMember, IsUpTo, IsAliveWith, IsLostOr, MapFits, OldestFits, SingleTells, MessageTells, opens_at, opens_in_exchange, is_opens_of, is_lost_or_has_installed, openings_to_come, openings_by, opens_on_link, opens_in_outbox}
 use Rattle.topology_laws.specs.TopologyInvariant.{HoldsInTopologyAct}
 use Rattle.topology_laws.specs.LeavesTopology.{LeavesTopology}
 use Rattle.topology_laws.specs.TopologyScenes.{TopologyPart, TopologyScene, TopologyState, has_noted_map, map_of, topology_at, topology_in_act, topology_state}
@@ -207,7 +207,7 @@ counts_good sc n s x fits oldest once good =
     free_by to false is own = absurd (cc (is))
 
 -- a map that no version of is installed, seen by its oldest member
-no_map_yet : (sc : TopologyScene) (n : NodeId) (s : NodeState) → HoldsInTopologyAct sc n s → oldest_member s.members ≡ Some n → is_installed s s.seen ≡ false → (there : PartMap) → map_of (topology_in_act sc n s) s.seen ≢ Some there
+pub no_map_yet : (sc : TopologyScene) (n : NodeId) (s : NodeState) → HoldsInTopologyAct sc n s → oldest_member s.members ≡ Some n → is_installed s s.seen ≡ false → (there : PartMap) → map_of (topology_in_act sc n s) s.seen ≢ Some there
 no_map_yet sc n s good oldest none there is =
     let k = own_fits sc n s good in
     let c = good.computed s.seen there is in
@@ -404,7 +404,7 @@ single_if_drained_good : (sc : TopologyScene) (n : NodeId) (s : NodeState) → H
 single_if_drained_good sc n s good =
     elim (owes_single s) as (λ b. HoldsInTopologyAct sc n (if b then after_send_single s else s)) [
       | true ↦ to_oldest_good sc n marked (msg.Single s.seen s.installed s.complete) (oldest_seen s) (λ v. refl)
-          (λ x is. (own_lives sc n marked (λ (f : TopologyState). IsUpTo s.seen f.known.top) (up_itself s.seen), own_oldest_is sc n marked x good_marked is, own_map (topology_in_act sc n marked) s.installed (own_fits sc n marked good_marked).map_fits, (λ a c at_a at_c. inl (own_installed a at_a))))
+          (λ x is. (own_lives sc n marked (λ (f : TopologyState). IsUpTo s.seen f.known.top) (up_itself s.seen), own_oldest_is sc n marked x good_marked is, own_map (topology_in_act sc n marked) s.installed (own_fits sc n marked good_marked).map_fits, (λ a c at_a at_c. inl (own_installed a at_a)), has_own s.installed refl))
           good_marked
       | false ↦ good
     ]
@@ -417,6 +417,10 @@ single_if_drained_good sc n s good =
 
     own_installed : (a : TopologyState) → (topology_in_act sc n marked).seat n ≡ Some (record { life = life.Alive; state = a }) → s.installed ≡ a.installed
     own_installed a at_a = ap (λ (x : TopologyPart). x.state.installed) (some_is (record { life = life.Alive; state = topology_state marked }) (record { life = life.Alive; state = a }) (sym (put_same n (record { life = life.Alive; state = topology_state marked }) sc.seat) ∙ at_a))
+
+    has_own : (o : Option PartMap) → s.installed ≡ o → HasMapItself (topology_in_act sc n marked) n o
+    has_own None is = tt
+    has_own (Some m) is = own_lives sc n marked (λ (f : TopologyState). HasAtLeast m.top f.installed) (subst (λ (o : Option PartMap). HasAtLeast m.top o) (sym is) (up_itself m.top))
 
     own_map : (b : TopologyScene) (o : Option PartMap) → MapFits b (topology_state s).known o → IsMapOfVersion b o
     own_map b None fits = tt

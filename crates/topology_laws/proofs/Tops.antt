@@ -9,7 +9,6 @@ use Rattle.std.proofs.Math.Nat.{min-eq_left, min-le_left}
 use Rattle.link_laws.proofs.Places.{some_is}
 use Rattle.part_model.specs.Directory.{first_top, version_after}
 use Rattle.part_model.specs.Orders.{is_less, is_lower_top, next_count}
-use Rattle.ignite_types.specs.Names.{same_top}
 use Rattle.ignite_types.specs.declared.journal.TopoEvent.{TopoEvent}
 use Rattle.ignite_types.specs.declared.names.TopVer.{TopVer}
 use Rattle.ignite_types.specs.declared.scenario.Scenario.{Scenario}

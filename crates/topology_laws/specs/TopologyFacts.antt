@@ -110,9 +110,15 @@ IsExact sc from to top m = (a c : TopologyState) → sc.seat from ≡ Some (reco
     → sc.seat to ≡ Some (record { life = life.Alive; state = c })
     → (m ≡ a.installed) ⊎ IsBehind from to top a c
 
+-- the node is lost, or has installed the map or a higher one
+abbrev pub HasMapItself : TopologyScene → NodeId → Option PartMap → Type 0
+HasMapItself sc n None = Unit {0}
+HasMapItself sc n (Some m) = HasMap sc m.top n
+
 -- who sends its Single has seen the version, and sends it to the version's oldest member
 abbrev pub SingleTells : TopologyScene → NodeId → NodeId → TopVer → Option PartMap → Type 0
-SingleTells sc from to top m = HasSeen sc top from × IsOldestMember sc top to × IsMapOfVersion sc m × IsExact sc from to top m
+SingleTells sc from to top m =
+    HasSeen sc top from × IsOldestMember sc top to × IsMapOfVersion sc m × IsExact sc from to top m × HasMapItself sc from m
 
 -- a map of the version was installed
 pub record HasSomeMap (sc : TopologyScene) (top : TopVer) : Type 0 where

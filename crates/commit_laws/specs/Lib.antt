@@ -1,0 +1,3 @@
+pub mod CommitFacts
+pub mod CommitLaws
+pub mod CommitSteps

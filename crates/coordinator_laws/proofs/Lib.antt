@@ -1,0 +1,2 @@
+pub mod ActRecords
+pub mod CoordinatorLaws

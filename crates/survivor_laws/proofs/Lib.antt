@@ -1,0 +1,10 @@
+pub mod MapsWhole
+pub mod NextOwned
+pub mod NextRows
+pub mod OwnersLeft
+pub mod SurvivorComputes
+pub mod SurvivorEvents
+pub mod SurvivorFrames
+pub mod SurvivorLosses
+pub mod SurvivorSteps
+pub mod ToldEvents

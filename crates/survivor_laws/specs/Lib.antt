@@ -1,0 +1,2 @@
+pub mod SurvivorFacts
+pub mod SurvivorInvariant

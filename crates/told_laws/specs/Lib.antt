@@ -1,0 +1,3 @@
+pub mod FindFacts
+pub mod LeavesAccesses
+pub mod ToldLaws

@@ -1,0 +1,11 @@
+pub mod Lists
+pub mod VoteSteps
+pub mod VoteFlights
+pub mod VoteRows
+pub mod VoterRows
+pub mod VoteKit
+pub mod VoteAnswers
+pub mod VoteActs
+pub mod VoteScenes
+pub mod VoteEvents
+pub mod VoteLaws

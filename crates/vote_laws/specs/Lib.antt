@@ -1,0 +1,4 @@
+pub mod VoteFacts
+pub mod VoteViews
+pub mod VoteInvariant
+pub mod VoteLaws
