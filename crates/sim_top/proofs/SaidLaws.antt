@@ -7,6 +7,7 @@ use Rattle.ignite_types.specs.declared.journal.Status.{Status}
 use Rattle.ignite_types.specs.declared.journal.Status.TheVariants as status
 use Rattle.ignite_types.specs.declared.scenario.Scenario.{Scenario}
 use Rattle.std.specs.Io.KnownBytes.{append_known, IsAtEnd}
+use Rattle.run_promises.proofs.RunPromises.{promised}
 use Rattle.scen_text.specs.Reading.{scenario_of}
 use Rattle.scen_text.specs.Causes.{refusal_text}
 use Rattle.scen_text.specs.declared.cause.Cause.{Cause}
@@ -21,7 +22,7 @@ use Rattle.sim_top.specs.declared.options.Options.{Options}
 use Rattle.sim_top.specs.Drive.{Follows, PastFollows}
 use Rattle.sim_top.proofs.DriveLaws.{are_picked}
 use Rattle.tx_model.specs.Opening.{opening}
-use Rattle.tx_model.specs.Runs.{EndsAt}
+use Rattle.tx_model.specs.Runs.{EndsAt, IsLegal}
 use Rattle.tx_model.specs.World.{World, all_sessions_over, possible}
 use Rattle.world_core.specs.Run.{Run}
 
@@ -158,10 +159,14 @@ usage_comes words r status.WriteFault j text none same same_faults says = absurd
 abbrev pub ended : Run → End → Journal
 ended r e = record { scenario = r.scenario; groups = r.past; end = e }
 
+legal_on : (o : Options) (r : Run) (e : End) → Follows o.seed r → EndsAt r.now e → IsLegal (ended r e)
+legal_on o r e h ends = record { steps = h.past.steps; end = subst (λ (w : World). EndsAt w e) h.now ends }
+
 follows_on : (o : Options) (r : Run) (e : End) → Follows o.seed r → EndsAt r.now e → Follow o (ended r e)
 follows_on o r e h ends = record {
-  legal = record { steps = h.past.steps; end = subst (λ (w : World). EndsAt w e) h.now ends };
+  legal = legal_on o r e h ends;
   schedule = are_picked o.seed 0 (opening r.scenario) r.past h.past.picked;
+  promises = λ is_good few. promised (ended r e) is_good (legal_on o r e h ends) few;
 }
 
 pub limit_runs : (o : Options) (r : Run) → Follows o.seed r → (length r.past ≡ o.steps) × (possible r.now ≢ []) → Runs o status.StepLimit (ended r end.StepLimit)

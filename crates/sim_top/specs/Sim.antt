@@ -1,6 +1,7 @@
 -- What a call of the simulator comes to: its status, its journal, and the text that is to be written.
-use Rattle.std.specs.Prelude.{◌≡◌, ◌≢◌, ◌⊎◌, ℕ, List, [], Option, Some, None, Ok, Err, IfSome, length, codes, ◌++◌, ◌∷◌}
+use Rattle.std.specs.Prelude.{◌≡◌, ◌≢◌, ◌<◌, ◌⊎◌, ◌^◌, ℕ, IsTrue, List, [], Option, Some, None, Ok, Err, IfSome, length, codes, ◌++◌, ◌∷◌}
 use Rattle.command_words.specs.declared.Make.{Make}
+use Rattle.ignite_types.specs.Good.{good}
 use Rattle.ignite_types.specs.declared.journal.End.TheVariants as end
 use Rattle.ignite_types.specs.declared.journal.Journal.{Journal}
 use Rattle.ignite_types.specs.declared.scenario.Scenario.{Scenario}
@@ -9,6 +10,7 @@ use Rattle.ignite_types.specs.declared.journal.Status.TheVariants as status
 use Rattle.std.specs.Io.KnownBytes.{append_known, IsAtEnd}
 use Rattle.host_io.specs.Faults.{Faulted}
 use Rattle.host_io.specs.Sink.{AppendsPart}
+use Rattle.run_promises.specs.RunPromises.{RunPromises}
 use Rattle.scen_text.specs.Causes.{Refusal, refusal_text}
 use Rattle.scen_text.specs.declared.cause.Cause.{Cause}
 use Rattle.scen_text.specs.Reading.{scenario_of}
@@ -48,10 +50,11 @@ pub record MetLimit (o : Options) (j : Journal) : Type 0 where
   pub many : length j.groups ≡ o.steps
   pub more : possible (world_after (opening j.scenario) j.groups) ≢ []
 
--- the journal is the machine's own, and follows the schedule of the seed
+-- the journal is the machine's own, and follows the schedule of the seed; of a good scenario it keeps what is proved of every run
 pub record Follow (o : Options) (j : Journal) : Type 0 where
   pub legal : IsLegal j
   pub schedule : IsScheduled (picks o.seed) j
+  pub promises : IsTrue (good j.scenario) → length j.groups < 2 ^ 62 → RunPromises j
 
 -- the groups so far are the machine's own; nothing is written
 pub record OutOfMemory (o : Options) (j : Journal) (text : List ℕ) : Type 0 where
