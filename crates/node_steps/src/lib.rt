@@ -1,6 +1,7 @@
 //! The small steps that the protocol's rows are made of: each looks one thing up in a node's state, or changes one.
 #![tactic(auto)]
 
+mod duplicates;
 mod near;
 mod node;
 mod nodes;

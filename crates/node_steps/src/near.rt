@@ -26,7 +26,8 @@ impl Node {
 
     /// An entry is put in front; past the size of its cache the last one is dropped.
     pub fn keep_near(&mut self, entry: &NearEntry) -> Mem<()>
-        ensures { OnOk result (self.new ≡ with_near self.old entry.now.key (near_put (near_size self.old entry.now.key) (near_of self.old entry.now.key) entry.now)) }
+        ensures { OnOk result (self.new ≡ with_near self.old entry.now.key
+            (near_put (near_size self.old entry.now.key) (near_of self.old entry.now.key) entry.now)) }
     {
         let size = self.near_size(&entry.key);
         self.near.put(size, entry)
@@ -34,7 +35,8 @@ impl Node {
 
     /// An update changes an older entry at its place, and a removal takes it out.
     pub fn update_near(&mut self, key: &Key, new: &Option<Value>, ver: CacheVersion) -> Mem<()>
-        ensures { OnOk result (self.new ≡ with_near self.old key.now (near_updated (near_of self.old key.now) key.now new.now ver)) }
+        ensures { OnOk result (self.new ≡ with_near self.old key.now
+            (near_updated (near_of self.old key.now) key.now new.now ver)) }
     {
         self.near.update(key, *new, ver)
     }

@@ -99,7 +99,8 @@ impl Node {
 
     /// Takes a session's state, to be put back changed.
     pub fn take_session_state(&mut self, session: u32) -> Option<SessionState>
-        ensures { MatchOption result (TakesNoSessionState self.old self.new session) (TakesSessionState self.old self.new session) }
+        ensures { MatchOption result (TakesNoSessionState self.old self.new session)
+            (TakesSessionState self.old self.new session) }
     {
         if self.state.session_states.get(&session).is_some() {
             let vacant = new_session_state(self.alloc, List::new(self.alloc));
