@@ -145,7 +145,11 @@ writes_at s node (w ∷ ws) = if is_node node (primary_at s w.0) then w ∷ writ
 abbrev pub prepare_outs : NodeState → TxId → TopVer → TxEntry → List Share → List NodeId → List Out
 prepare_outs s tx top entry shares [] = []
 prepare_outs s tx top entry shares (node ∷ more) =
-    record { to = node; msg = msg.Prepare tx top entry.mode shares (wanted_at s entry node entry.keys) (writes_at s node entry.writes) }
+    record {
+      to = node;
+      msg = msg.Prepare tx top entry.mode shares (wanted_at s entry node entry.keys)
+          (writes_at s node entry.writes);
+    }
     ∷ prepare_outs s tx top entry shares more
 
 -- each primary of a touched key is asked, and awaited
@@ -238,7 +242,8 @@ most_keys = TRANSACTION_KEYS
 abbrev pub after_new_key : NodeState → TxId → TopVer → Bool → Command → Key → NodeId → TxEntry → NodeState
 after_new_key s tx top block c key primary e = if nat_le most_keys (length e.keys)
     then after_access_refused s tx block answer.TooManyKeys
-    else if is_live s primary then after_new_access s tx top block c key primary e.mode else after_fail s tx (fault.NodeLost primary)
+    else if is_live s primary then after_new_access s tx top block c key primary e.mode else after_fail s tx
+    (fault.NodeLost primary)
 
 abbrev pub after_access_at : NodeState → TxId → TopVer → Bool → Command → Key → Option NodeId → TxEntry → NodeState
 after_access_at s tx top block c key None e = after_access_refused s tx block (answer.NoCache key.cache)
@@ -314,7 +319,8 @@ after_keep_near s key _ _ = s
 
 abbrev pub after_get_ok_for : NodeState → TxId → Key → Found → TxEntry → Getting → NodeState
 after_get_ok_for s tx key found e getting = if same_key getting.key key
-    then after_resume (after_keep_near (without_getting s tx) key getting.near found) tx key found e.top (session_state_of s tx.session)
+    then after_resume (after_keep_near (without_getting s tx) key getting.near found) tx key found e.top
+    (session_state_of s tx.session)
     else s
 
 abbrev pub after_get_ok_in : NodeState → TxId → Key → Found → TxEntry → Option Getting → NodeState

@@ -92,4 +92,5 @@ after_single_if_drained s = if owes_single s then after_send_single s else s
 -- the primary's shares go on first, then the near side; what starts goes on in the same act
 abbrev pub after_closing_rules : NodeState → NodeState
 after_closing_rules s =
-    after_single_if_drained (after_advance_starter (after_start_all (after_advance_starter (after_advance_shares s (own_txs s)))))
+    after_single_if_drained (after_advance_starter
+    (after_start_all (after_advance_starter (after_advance_shares s (own_txs s)))))

@@ -78,7 +78,12 @@ next_tx s session started = record { node = s.me; session = session; number = ne
 -- a new transaction, of a block or of one access
 abbrev pub after_open_tx : NodeState → TxId → Mode → Option ℕ → Bool → NodeState
 after_open_tx s tx mode deadline block = let known = with_entry s tx (new_entry mode deadline) in
-    on_session_state known tx.session (λ (d : SessionState). record d { tx = Some tx; block = block; skipping = false; started = tx.number })
+    on_session_state known tx.session (λ (d : SessionState). record d {
+      tx = Some tx;
+      block = block;
+      skipping = false;
+      started = tx.number;
+    })
     (session_state_of known tx.session)
 
 -- the sum of two moments, which stands still at the end of 64 bits
@@ -130,7 +135,8 @@ after_access_command s session started block c None false =
 -- the block whose fault was told is over
 abbrev pub after_skip_end : NodeState → ℕ → NodeState
 after_skip_end s session =
-    on_session_state s session (λ (d : SessionState). record d { skipping = false; ready = Some answer.Skipped }) (session_state_of s session)
+    on_session_state s session (λ (d : SessionState). record d { skipping = false; ready = Some answer.Skipped })
+    (session_state_of s session)
 
 -- commit, rollback and close: of the open transaction; skipped after a told fault; or of none
 abbrev pub after_end_command : NodeState → ℕ → Bool → Command → Option TxId → Bool → NodeState
@@ -140,7 +146,8 @@ after_end_command s session block c None false = with_answer_ready s session ans
 
 abbrev pub after_sleep : NodeState → ℕ → ℕ → NodeState
 after_sleep s session n =
-    on_session_state s session (λ (d : SessionState). record d { wake = Some (moment_after s.now n) }) (session_state_of s session)
+    on_session_state s session (λ (d : SessionState). record d { wake = Some (moment_after s.now n) })
+    (session_state_of s session)
 
 -- a command, by what its session stands at: how many transactions it has started, whether a block is open or skipped, and
 -- its transaction

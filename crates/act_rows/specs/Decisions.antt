@@ -98,7 +98,8 @@ session_state_after_fault f c d =
 
 abbrev pub after_tell : NodeState → TxId → Fault → Command → NodeState
 after_tell s tx f c =
-    let gone = without_tx s tx in on_session_state gone tx.session (session_state_after_fault f c) (session_state_of gone tx.session)
+    let gone = without_tx s tx in on_session_state gone tx.session (session_state_after_fault f c)
+    (session_state_of gone tx.session)
 
 -- the fault is kept until a command asks for it
 abbrev pub with_fault_kept : NodeState → TxId → NodeState
@@ -131,7 +132,8 @@ closing_answer _ None = answer.RolledBack
 -- the transaction has ended: its session's answer is ready, and the session has no transaction
 abbrev pub after_close_tx : NodeState → TxId → Answer → NodeState
 after_close_tx s tx a = let gone = without_tx s tx in
-    on_session_state gone tx.session (λ (d : SessionState). record d { tx = None; block = false; ready = Some a }) (session_state_of gone tx.session)
+    on_session_state gone tx.session (λ (d : SessionState). record d { tx = None; block = false; ready = Some a })
+    (session_state_of gone tx.session)
 
 abbrev pub after_end_tx : NodeState → TxId → TxState → Option Answer → Option Fault → NodeState
 after_end_tx s tx st outcome None = after_close_tx s tx (closing_answer st outcome)

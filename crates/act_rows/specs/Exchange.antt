@@ -74,7 +74,8 @@ after_install s m = with_note (record s {
   near = [];
   readers = [];
   shares = without_each tx_cmp s.shares (keys_where (λ (e : TxId × OwnShare). is_kept_commit e.1.state) s.shares);
-  backups = without_each backup_cmp s.backups (keys_where (λ (e : BackupName × BackupShare). is_kept_commit e.1.state) s.backups);
+  backups = without_each backup_cmp s.backups (keys_where (λ (e : BackupName × BackupShare). is_kept_commit e.1.state)
+      s.backups);
   complete = [];
   claims = [];
 }) (note.Install m)

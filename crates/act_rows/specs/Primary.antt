@@ -48,7 +48,8 @@ is_forgettable tx u _ = false
 abbrev pub after_forget : NodeState → TxId → NodeState
 after_forget s tx = record s {
   shares = without_each tx_cmp s.shares (keys_where (λ (e : TxId × OwnShare). is_forgettable tx e.0 e.1.state) s.shares);
-  backups = without_each backup_cmp s.backups (keys_where (λ (e : BackupName × BackupShare). is_forgettable tx e.0.tx e.1.state) s.backups);
+  backups = without_each backup_cmp s.backups
+      (keys_where (λ (e : BackupName × BackupShare). is_forgettable tx e.0.tx e.1.state) s.backups);
 }
 
 -- Prepare.
@@ -85,7 +86,8 @@ failed_check s tx wanted = or_changed (candidate_of (first_blocked s.queues (wan
 abbrev pub drawn_writes : TopVer → NodeId → ℕ → List (Key × Option (List ℕ)) → List Stored
 drawn_writes top me order [] = []
 drawn_writes top me order (w ∷ ws) =
-    record { key = w.0; value = w.1; ver = record { top = top; order = next_count order; node = me } } ∷ drawn_writes top me (next_count order) ws
+    record { key = w.0; value = w.1; ver = record { top = top; order = next_count order; node = me } } ∷ drawn_writes top me
+    (next_count order) ws
 
 -- the last number drawn after these writes
 abbrev pub last_drawn : ℕ → List (Key × Option (List ℕ)) → ℕ

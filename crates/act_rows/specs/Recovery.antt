@@ -54,7 +54,8 @@ orphan_txs s = lost_starters s (held_txs s)
 
 abbrev pub with_backup_held : NodeId → TxId → List (Share × ShareState) → BackupName × BackupShare → List (Share × ShareState)
 with_backup_held me tx map_holders e =
-    if same_tx e.0.tx tx then put share_cmp map_holders (record { holder = me; primary = e.0.primary }) e.1.state else map_holders
+    if same_tx e.0.tx tx then put share_cmp map_holders (record { holder = me; primary = e.0.primary }) e.1.state else
+    map_holders
 
 -- the shares of a transaction that are held for other primaries, with their states
 abbrev pub held_backups_from : NodeId → TxId → List (Share × ShareState) → List (BackupName × BackupShare) →

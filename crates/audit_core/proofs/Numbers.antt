@@ -24,12 +24,14 @@ digits_in text is =
     (grind (arith, nat_tests, parts.0), parts.1)
 
 -- a numeral that the parse refuses has more than 64 bits
-pub numeral_refused : {E : Type 0} (text : List ℕ) (e : E) → is_numeral text ≡ true → ParsesUnsigned 64 10 text (Err e) → None ≡ long_number text
+pub numeral_refused : {E : Type 0} (text : List ℕ) (e : E) → is_numeral text ≡ true → ParsesUnsigned 64 10 text (Err e) →
+    None ≡ long_number text
 numeral_refused {E} text e is refused =
     let digits = digits_in text is in
     let large = parse_digits own {E = E} 64 text (Err e) refused digits.1 in
     go (nat_lt (digits_value 10 text) (2 ^ 64)) refl digits.0 large
   where
-    go : (t : Bool) → nat_lt (digits_value 10 text) (2 ^ 64) ≡ t → 0 < length text → ((0 < length text) × (digits_value 10 text < 2 ^ 64) → ⊥) → None ≡ long_number text
+    go : (t : Bool) → nat_lt (digits_value 10 text) (2 ^ 64) ≡ t → 0 < length text →
+        ((0 < length text) × (digits_value 10 text < 2 ^ 64) → ⊥) → None ≡ long_number text
     go true fits some large = absurd (large (some, grind (arith, nat_tests, fits)))
     go false fits some large = rw (is, fits) refl

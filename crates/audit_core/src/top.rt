@@ -118,7 +118,12 @@ fn bytes_say(alloc: Global, bytes: &[u8]) -> ToolText
 
 /// What an audit of this source comes to.
 pub fn audit_text<S: Source>(alloc: Global, source: &mut S) -> ToolText
-    ensures { AuditSays (record { before = S.left source.old; after = S.left source.new; faults_before = S.faults source.old; faults_after = S.faults source.new }) result.status result.text.items }
+    ensures { AuditSays (record {
+      before = S.left source.old;
+      after = S.left source.new;
+      faults_before = S.faults source.old;
+      faults_after = S.faults source.new;
+    }) result.status result.text.items }
 {
     match read_up_to(alloc, source, MAX_LIMIT) {
         Ok(bytes) => bytes_say(alloc, bytes.as_slice()),

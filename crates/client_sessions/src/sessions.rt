@@ -84,7 +84,8 @@ pub fn answer_at(node: &Node, session: u32) -> Option<Answer>
 /// The pending command is answered, and the session goes on in its script.
 #[tactic(auto, using(act_rows::proofs::TableLaws::nat_put_put))]
 fn hand_over(node: &mut Node, session: u32, answer: &Answer) -> Mem<()>
-    ensures { OnOk result (node.new ≡ on_session_state node.old session (session_state_after_answer answer.now) (session_state_of node.old session)) }
+    ensures { OnOk result (node.new ≡ on_session_state node.old session (session_state_after_answer answer.now)
+        (session_state_of node.old session)) }
 {
     let Some(mut session_state) = node.take_session_state(session) else {
         return Ok(());

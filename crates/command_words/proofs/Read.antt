@@ -28,30 +28,37 @@ pub is_ready : is_simple sim_app ≡ true
 is_ready = refl
 
 -- the parser's faults and its rows, together
-said : (words : List Text) → answered (fault_of sim_app words) (asked_of (λ id. first_of id (matches_of sim_app words))) ≡ line words
+said : (words : List Text) → answered (fault_of sim_app words) (asked_of (λ id. first_of id (matches_of sim_app words)))
+    ≡ line words
 said words =
-    ap (λ (kinds : Kinds). answered kinds (asked_of (λ id. first_of id (matches_of sim_app words)))) (leaf_fault (built sim_app) nothing_held words refl)
+    ap (λ (kinds : Kinds). answered kinds (asked_of (λ id. first_of id (matches_of sim_app words))))
+    (leaf_fault (built sim_app) nothing_held words refl)
     ∙ walked_line rules known words
 
-pub taken_line : (words : List Text) (f : Found) → fault_of sim_app words ≡ [] → rows_of f ≡ matches_of sim_app words → asked_of (first_value f) ≡ line words
+pub taken_line : (words : List Text) (f : Found) → fault_of sim_app words ≡ [] → rows_of f ≡ matches_of sim_app words →
+    asked_of (first_value f) ≡ line words
 taken_line words f passes same =
     ap asked_of (λ i id. first_value-rows f id i)
     ∙ (ap (λ xs. asked_of (λ id. first_of id xs)) same
-    ∙ (sym (ap (λ (kinds : Kinds). answered kinds (asked_of (λ id. first_of id (matches_of sim_app words)))) passes) ∙ said words))
+    ∙ (sym (ap (λ (kinds : Kinds). answered kinds (asked_of (λ id. first_of id (matches_of sim_app words)))) passes)
+    ∙ said words))
 
 refused_by : (k : ErrorKind) (kinds : Kinds) (x : Option SimWords) → IsAmong k kinds → answered kinds x ≡ None
 refused_by k [] x h = absurd h
 refused_by k (y ∷ ys) x h = refl
 
 pub refused_line : (words : List Text) (k : ErrorKind) → IsAmong k (fault_of sim_app words) → line words ≡ None
-refused_line words k h = sym (said words) ∙ refused_by k (fault_of sim_app words) (asked_of (λ id. first_of id (matches_of sim_app words))) h
+refused_line words k h = sym (said words)
+    ∙ refused_by k (fault_of sim_app words) (asked_of (λ id. first_of id (matches_of sim_app words))) h
 
 -- the answer that is made of what is asked for
-pub asked_ok : (o l : Option SimWords) (r : Result SimWords WordsFault) → o ≡ l → r ≡ ok_or o Usage → IfOk r (λ asked. l ≡ Some asked)
+pub asked_ok : (o l : Option SimWords) (r : Result SimWords WordsFault) → o ≡ l → r ≡ ok_or o Usage →
+    IfOk r (λ asked. l ≡ Some asked)
 asked_ok None l r e is = subst (λ (x : Result SimWords WordsFault). IfOk x (λ asked. l ≡ Some asked)) (sym is) tt
 asked_ok (Some x) l r e is = subst (λ (x : Result SimWords WordsFault). IfOk x (λ asked. l ≡ Some asked)) (sym is) (sym e)
 
-pub asked_usage : (o l : Option SimWords) (r : Result SimWords WordsFault) → o ≡ l → r ≡ ok_or o Usage → r ≡ Err Usage → l ≡ None
+pub asked_usage : (o l : Option SimWords) (r : Result SimWords WordsFault) → o ≡ l → r ≡ ok_or o Usage → r ≡ Err Usage →
+    l ≡ None
 asked_usage None l r e is usage = sym e
 asked_usage (Some x) l r e is usage = cc
 

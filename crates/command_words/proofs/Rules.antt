@@ -26,7 +26,14 @@ shown false t = codes "true"
 
 -- the row of an option that stands in the line
 abbrev pub row_at : Text → Bool → Text → Row
-row_at id takes t = record { id = id; values = shown takes t ∷ []; count = None; source = Some CommandLine; reading = AsWritten }
+row_at id takes t = record {
+  id = id;
+  values = shown takes t ∷ [];
+  count = None;
+  source = Some CommandLine;
+  reading =
+      AsWritten;
+}
 
 abbrev pub row : Name × Text → Row
 row e = row_at (spelled e.0) (takes_value e.0) e.1
@@ -39,19 +46,41 @@ has_row-rows n [] = refl
 has_row-rows n (e ∷ given) = go (bytes_eq (spelled e.0) (spelled n)) (has_row-rows n given)
   where
     go : (b : Bool) → has_row (spelled n) (rows given) ≡ is_given n given
-        → (b || has_row (spelled n) (rows given)) ≡ is_some (option_map (λ (x : Name × Text). x.1) (cond b (Some e) (find (λ x. bytes_eq (spelled x.0) (spelled n)) given)))
+        → (b || has_row (spelled n) (rows given)) ≡ is_some
+        (option_map (λ (x : Name × Text). x.1) (cond b (Some e) (find (λ x. bytes_eq (spelled x.0) (spelled n)) given)))
     go true h = refl
     go false h = h
 
 -- a first use puts a row at the end
 pub appended : (id : Text) (how : Reading) (s : ValueSource) (vs : List Text) (xs : List Row) → has_row id xs ≡ false
-    → with_values id how s vs (without id xs) ≡ xs ++ record { id = id; values = vs; count = None; source = Some s; reading = how } ∷ []
+    → with_values id how s vs (without id xs) ≡ xs ++ record {
+      id = id;
+      values = vs;
+      count = None;
+      source = Some s;
+      reading =
+          how;
+    } ∷ []
 appended id how s vs [] h = refl
 appended id how s vs (x ∷ xs) h = go (bytes_eq x.id id) refl h (appended id how s vs xs)
   where
     go : (b : Bool) → bytes_eq x.id id ≡ b → (b || has_row id xs) ≡ false
-        → (has_row id xs ≡ false → with_values id how s vs (without id xs) ≡ xs ++ record { id = id; values = vs; count = None; source = Some s; reading = how } ∷ [])
-        → with_values id how s vs (without id (x ∷ xs)) ≡ (x ∷ xs) ++ record { id = id; values = vs; count = None; source = Some s; reading = how } ∷ []
+        → (has_row id xs ≡ false → with_values id how s vs (without id xs) ≡ xs ++ record {
+          id = id;
+          values = vs;
+          count =
+              None;
+          source = Some s;
+          reading = how;
+        } ∷ [])
+        → with_values id how s vs (without id (x ∷ xs)) ≡ (x ∷ xs) ++ record {
+          id = id;
+          values = vs;
+          count = None;
+          source =
+              Some s;
+          reading = how;
+        } ∷ []
     go true e h rec = cc
     go false e h rec = rw (e, e) (ap (λ ys. x ∷ ys) (rec h))
 
@@ -60,18 +89,21 @@ abbrev pub raw : Bool → Text → List Text
 raw true t = t ∷ []
 raw false t = []
 
-pub use_by : (id : Text) (takes : Bool) (t : Text) (xs : List Row) → use_fault false (rule_by id takes) (raw takes t) xs ≡ cond (has_row id xs) (ArgumentConflict ∷ []) []
+pub use_by : (id : Text) (takes : Bool) (t : Text) (xs : List Row) → use_fault false (rule_by id takes) (raw takes t) xs
+    ≡ cond (has_row id xs) (ArgumentConflict ∷ []) []
 use_by id takes t xs = pick takes
   where
     go : (b : Bool) → or_else (cond (b && not false) (ArgumentConflict ∷ []) []) [] ≡ cond b (ArgumentConflict ∷ []) []
     go true = refl
     go false = refl
 
-    pick : (takes : Bool) → use_fault false (rule_by id takes) (raw takes t) xs ≡ cond (has_row id xs) (ArgumentConflict ∷ []) []
+    pick : (takes : Bool) → use_fault false (rule_by id takes) (raw takes t) xs ≡ cond (has_row id xs) (ArgumentConflict ∷ [])
+        []
     pick true = go (has_row id xs)
     pick false = go (has_row id xs)
 
-pub used_by_rule : (id : Text) (takes : Bool) (t : Text) (xs : List Row) → has_row id xs ≡ false → used (rule_by id takes) (raw takes t) xs ≡ xs ++ row_at id takes t ∷ []
+pub used_by_rule : (id : Text) (takes : Bool) (t : Text) (xs : List Row) → has_row id xs ≡ false →
+    used (rule_by id takes) (raw takes t) xs ≡ xs ++ row_at id takes t ∷ []
 used_by_rule id true t xs h = appended id AsWritten CommandLine (t ∷ []) xs h
 used_by_rule id false t xs h = appended id AsWritten CommandLine (codes "true" ∷ []) xs h
 
@@ -80,8 +112,12 @@ pub missing_value : (id : Text) (xs : List Row) → use_fault false (rule_by id 
 missing_value id xs = refl
 
 -- the same of the options of a line
-pub use_is : (n : Name) (t : Text) (given : Given) → use_fault false (rule n) (raw (takes_value n) t) (rows given) ≡ cond (is_given n given) (ArgumentConflict ∷ []) []
-use_is n t given = use_by (spelled n) (takes_value n) t (rows given) ∙ ap (λ (b : Bool). cond b (ArgumentConflict ∷ []) []) (has_row-rows n given)
+pub use_is : (n : Name) (t : Text) (given : Given) → use_fault false (rule n) (raw (takes_value n) t) (rows given)
+    ≡ cond (is_given n given) (ArgumentConflict ∷ []) []
+use_is n t given = use_by (spelled n) (takes_value n) t (rows given) ∙ ap (λ (b : Bool). cond b (ArgumentConflict ∷ []) [])
+    (has_row-rows n given)
 
-pub used_is : (n : Name) (t : Text) (given : Given) → is_given n given ≡ false → used (rule n) (raw (takes_value n) t) (rows given) ≡ rows (given ++ (n, t) ∷ [])
-used_is n t given h = used_by_rule (spelled n) (takes_value n) t (rows given) (has_row-rows n given ∙ h) ∙ sym (map-append row given ((n, t) ∷ []))
+pub used_is : (n : Name) (t : Text) (given : Given) → is_given n given ≡ false →
+    used (rule n) (raw (takes_value n) t) (rows given) ≡ rows (given ++ (n, t) ∷ [])
+used_is n t given h = used_by_rule (spelled n) (takes_value n) t (rows given) (has_row-rows n given ∙ h)
+    ∙ sym (map-append row given ((n, t) ∷ []))

@@ -43,11 +43,19 @@ words_asked seed steps make txs trace json = do
   first ← number_or 0 0 18446744073709551615 seed
   most ← number_or 1000000 1 4000000 steps
   making ← made make txs
-  if agree trace json (is_some make) then Some (record { seed = first; steps = most; trace = trace; json = json; make = making }) else None
+  if agree trace json (is_some make) then Some (record {
+    seed = first;
+    steps = most;
+    trace = trace;
+    json = json;
+    make =
+        making;
+  }) else None
 
 abbrev pub asked_by : Given → Option SimWords
 asked_by given =
-    words_asked (value_given name.seed given) (value_given name.steps given) (value_given name.make given) (value_given name.txs given) (is_given name.trace given) (is_given name.json given)
+    words_asked (value_given name.seed given) (value_given name.steps given) (value_given name.make given)
+    (value_given name.txs given) (is_given name.trace given) (is_given name.json given)
 
 -- what the words ask for, or none where they are no command line
 abbrev pub line : List Text → Option SimWords

@@ -42,7 +42,8 @@ is_set text = option_map_or (λ t. bytes_eq t (codes "true")) text false
 -- what is asked for by the texts of the options
 abbrev pub asked_of : (Text → Option Text) → Option SimWords
 asked_of text =
-    words_asked (text (codes "seed")) (text (codes "steps")) (text (codes "make")) (text (codes "txs")) (is_set (text (codes "trace"))) (is_set (text (codes "json")))
+    words_asked (text (codes "seed")) (text (codes "steps")) (text (codes "make")) (text (codes "txs"))
+    (is_set (text (codes "trace"))) (is_set (text (codes "json")))
 
 -- what a refusal of the parser is
 abbrev pub fault : ErrorKind → WordsFault

@@ -21,22 +21,27 @@ use Rattle.ignite_types.specs.declared.scenario.Command.TheVariants as command
 abbrev pub beside : List (Key × Found) → List TxId → Walk → Walk
 beside near overs w = record w { near = near; overs = overs }
 
-read_beside : (near : List (Key × Found)) (overs : List TxId) (w : Walk) (key : Key) → walk_with_read (beside near overs w) key ≡ beside near overs (walk_with_read w key)
+read_beside : (near : List (Key × Found)) (overs : List TxId) (w : Walk) (key : Key) →
+    walk_with_read (beside near overs w) key ≡ beside near overs (walk_with_read w key)
 read_beside near overs w key =
-    elim (at key_cmp w.reads key) as (λ r. walk_with_first_read (beside near overs w) key r (at key_cmp w.writes key) ≡ beside near overs (walk_with_first_read w key r (at key_cmp w.writes key))) [
-      | None ↦ elim (at key_cmp w.writes key) as (λ r. walk_with_first_read (beside near overs w) key None r ≡ beside near overs (walk_with_first_read w key None r)) [
-        | None ↦ refl
-        | Some x ↦ refl
-      ]
+    elim (at key_cmp w.reads key) as (λ r. walk_with_first_read (beside near overs w) key r (at key_cmp w.writes key)
+    ≡ beside near overs (walk_with_first_read w key r (at key_cmp w.writes key))) [
+      | None ↦ elim (at key_cmp w.writes key) as (λ r. walk_with_first_read (beside near overs w) key None r
+          ≡ beside near overs (walk_with_first_read w key None r)) [
+            | None ↦ refl
+            | Some x ↦ refl
+          ]
       | Some x ↦ refl
     ]
 
-sum_beside : (near : List (Key × Found)) (overs : List TxId) (w : Walk) (key : Key) (sum : Result (List ℕ) Answer) → walk_with_sum (beside near overs w) key sum ≡ beside near overs (walk_with_sum w key sum)
+sum_beside : (near : List (Key × Found)) (overs : List TxId) (w : Walk) (key : Key) (sum : Result (List ℕ) Answer) →
+    walk_with_sum (beside near overs w) key sum ≡ beside near overs (walk_with_sum w key sum)
 sum_beside near overs w key (Ok value) = refl
 sum_beside near overs w key (Err a) = refl
 
 -- an access looks at neither
-pub access_beside : (near : List (Key × Found)) (overs : List TxId) (w : Walk) (c : Command) → walk_after_done_access (beside near overs w) c ≡ beside near overs (walk_after_done_access w c)
+pub access_beside : (near : List (Key × Found)) (overs : List TxId) (w : Walk) (c : Command) →
+    walk_after_done_access (beside near overs w) c ≡ beside near overs (walk_after_done_access w c)
 access_beside near overs w (command.Get key) = read_beside near overs w key
 access_beside near overs w (command.Put key value) = refl
 access_beside near overs w (command.Remove key) = refl
@@ -49,14 +54,19 @@ access_beside near overs w command.Rollback = refl
 access_beside near overs w (command.Sleep n) = refl
 access_beside near overs w command.Close = refl
 
-counted_beside : (near : List (Key × Found)) (overs : List TxId) (tx : TxId) (w : Walk) (c : Command) (a : Answer) → walk_after_counted_access tx (beside near overs w) c a ≡ beside near overs (walk_after_counted_access tx w c a)
+counted_beside : (near : List (Key × Found)) (overs : List TxId) (tx : TxId) (w : Walk) (c : Command) (a : Answer) →
+    walk_after_counted_access tx (beside near overs w) c a ≡ beside near overs (walk_after_counted_access tx w c a)
 counted_beside near overs tx w c a =
-    elim ((w.started == tx.number) && is_done a) as (λ b. (if b then walk_after_done_access (beside near overs w) c else beside near overs w) ≡ beside near overs (if b then walk_after_done_access w c else w)) [
+    elim ((w.started == tx.number) && is_done a) as (λ b.
+    (if b then walk_after_done_access (beside near overs w) c else beside near overs w) ≡ beside near overs
+    (if b then walk_after_done_access w c else w)) [
       | true ↦ access_beside near overs w c
       | false ↦ refl
     ]
 
-after_beside : (near : List (Key × Found)) (overs : List TxId) (w : Walk) (a : Answer) → walk_without_call (walk_after_told_fault (beside near overs w) a) ≡ beside near overs (walk_without_call (walk_after_told_fault w a))
+after_beside : (near : List (Key × Found)) (overs : List TxId) (w : Walk) (a : Answer) →
+    walk_without_call (walk_after_told_fault (beside near overs w) a) ≡ beside near overs
+    (walk_without_call (walk_after_told_fault w a))
 after_beside near overs w answer.Done = refl
 after_beside near overs w (answer.Found value) = refl
 after_beside near overs w answer.Absent = refl
@@ -71,11 +81,16 @@ after_beside near overs w answer.TransactionOpen = refl
 after_beside near overs w answer.Skipped = refl
 after_beside near overs w (answer.NoCache cache) = refl
 
-other_beside : (near : List (Key × Found)) (overs : List TxId) (tx : TxId) (w : Walk) (c : Command) (a : Answer) → walk_without_call (walk_after_told_fault (walk_after_counted_access tx (beside near overs w) c a) a) ≡ beside near overs (walk_without_call (walk_after_told_fault (walk_after_counted_access tx w c a) a))
+other_beside : (near : List (Key × Found)) (overs : List TxId) (tx : TxId) (w : Walk) (c : Command) (a : Answer) →
+    walk_without_call (walk_after_told_fault (walk_after_counted_access tx (beside near overs w) c a) a) ≡ beside near overs
+    (walk_without_call (walk_after_told_fault (walk_after_counted_access tx w c a) a))
 other_beside near overs tx w c a =
-    ap (λ v. walk_without_call (walk_after_told_fault v a)) (counted_beside near overs tx w c a) ∙ after_beside near overs (walk_after_counted_access tx w c a) a
+    ap (λ v. walk_without_call (walk_after_told_fault v a)) (counted_beside near overs tx w c a)
+    ∙ after_beside near overs (walk_after_counted_access tx w c a) a
 
-begin_beside : (near : List (Key × Found)) (overs : List TxId) (tx : TxId) (w : Walk) (mode : Mode) (timeout : ℕ) (a : Answer) → walk_after_answer tx (beside near overs w) (Some (command.Begin mode timeout)) a ≡ beside near overs (walk_after_answer tx w (Some (command.Begin mode timeout)) a)
+begin_beside : (near : List (Key × Found)) (overs : List TxId) (tx : TxId) (w : Walk) (mode : Mode) (timeout : ℕ)
+    (a : Answer) → walk_after_answer tx (beside near overs w) (Some (command.Begin mode timeout)) a ≡ beside near overs
+    (walk_after_answer tx w (Some (command.Begin mode timeout)) a)
 begin_beside near overs tx w mode timeout answer.Done = refl
 begin_beside near overs tx w mode timeout (answer.Found value) = refl
 begin_beside near overs tx w mode timeout answer.Absent = refl
@@ -91,7 +106,8 @@ begin_beside near overs tx w mode timeout answer.Skipped = refl
 begin_beside near overs tx w mode timeout (answer.NoCache cache) = refl
 
 -- the answer of a call looks at neither
-pub answer_beside : (near : List (Key × Found)) (overs : List TxId) (tx : TxId) (w : Walk) (c : Command) (a : Answer) → walk_after_answer tx (beside near overs w) (Some c) a ≡ beside near overs (walk_after_answer tx w (Some c) a)
+pub answer_beside : (near : List (Key × Found)) (overs : List TxId) (tx : TxId) (w : Walk) (c : Command) (a : Answer) →
+    walk_after_answer tx (beside near overs w) (Some c) a ≡ beside near overs (walk_after_answer tx w (Some c) a)
 answer_beside near overs tx w (command.Begin mode timeout) a = begin_beside near overs tx w mode timeout a
 answer_beside near overs tx w command.Commit a = refl
 answer_beside near overs tx w command.Rollback a = refl
@@ -106,7 +122,8 @@ answer_beside near overs tx w (command.Sleep n) a = other_beside near overs tx w
 
 read_line : (l : Line) (w : Walk) (key : Key) → line_after l (walk_with_read w key) ≡ line_after l w
 read_line l w key =
-    elim (at key_cmp w.reads key) as (λ r. line_after l (walk_with_first_read w key r (at key_cmp w.writes key)) ≡ line_after l w) [
+    elim (at key_cmp w.reads key) as (λ r. line_after l (walk_with_first_read w key r (at key_cmp w.writes key))
+    ≡ line_after l w) [
       | None ↦ elim (at key_cmp w.writes key) as (λ r. line_after l (walk_with_first_read w key None r) ≡ line_after l w) [
         | None ↦ refl
         | Some x ↦ refl
@@ -114,7 +131,8 @@ read_line l w key =
       | Some x ↦ refl
     ]
 
-sum_line : (l : Line) (w : Walk) (key : Key) (sum : Result (List ℕ) Answer) → line_after l (walk_with_sum w key sum) ≡ line_after l w
+sum_line : (l : Line) (w : Walk) (key : Key) (sum : Result (List ℕ) Answer) → line_after l (walk_with_sum w key sum)
+    ≡ line_after l w
 sum_line l w key (Ok value) = refl
 sum_line l w key (Err a) = refl
 
@@ -130,9 +148,11 @@ access_line l w command.Rollback = refl
 access_line l w (command.Sleep n) = refl
 access_line l w command.Close = refl
 
-counted_line : (l : Line) (tx : TxId) (w : Walk) (c : Command) (a : Answer) → line_after l (walk_after_counted_access tx w c a) ≡ line_after l w
+counted_line : (l : Line) (tx : TxId) (w : Walk) (c : Command) (a : Answer) →
+    line_after l (walk_after_counted_access tx w c a) ≡ line_after l w
 counted_line l tx w c a =
-    elim ((w.started == tx.number) && is_done a) as (λ b. line_after l (if b then walk_after_done_access w c else w) ≡ line_after l w) [
+    elim ((w.started == tx.number) && is_done a) as (λ b. line_after l (if b then walk_after_done_access w c else w)
+    ≡ line_after l w) [
       | true ↦ access_line l w c
       | false ↦ refl
     ]
@@ -142,7 +162,8 @@ abbrev ended : Line → Answer → Line
 ended l (answer.Failed why) = record l { skipping = l.block || l.skipping; block = false; called = None }
 ended l _ = record l { called = None }
 
-ended_is : (l : Line) (w : Walk) (a : Answer) → line_after l (walk_without_call (walk_after_told_fault w a)) ≡ ended (line_after l w) a
+ended_is : (l : Line) (w : Walk) (a : Answer) → line_after l (walk_without_call (walk_after_told_fault w a))
+    ≡ ended (line_after l w) a
 ended_is l w answer.Done = refl
 ended_is l w (answer.Found value) = refl
 ended_is l w answer.Absent = refl
@@ -157,7 +178,8 @@ ended_is l w answer.TransactionOpen = refl
 ended_is l w answer.Skipped = refl
 ended_is l w (answer.NoCache cache) = refl
 
-ended_walk : (l : Line) (v : Walk) (near : List (Key × Found)) (overs : List TxId) (g : Found) (a : Answer) → walk_without_call (walk_after_told_fault (assembled l v near overs g) a) ≡ assembled (ended l a) v near overs None
+ended_walk : (l : Line) (v : Walk) (near : List (Key × Found)) (overs : List TxId) (g : Found) (a : Answer) →
+    walk_without_call (walk_after_told_fault (assembled l v near overs g) a) ≡ assembled (ended l a) v near overs None
 ended_walk l v near overs g answer.Done = refl
 ended_walk l v near overs g (answer.Found value) = refl
 ended_walk l v near overs g answer.Absent = refl
@@ -173,16 +195,24 @@ ended_walk l v near overs g answer.Skipped = refl
 ended_walk l v near overs g (answer.NoCache cache) = refl
 
 -- an answer of another transaction's access
-other_apart : (tx cur : TxId) (l : Line) (v x : Walk) (near : List (Key × Found)) (overs : List TxId) (g : Found) (c : Command) (a : Answer) → (l.started == tx.number) ≡ false →
-    walk_without_call (walk_after_told_fault (walk_after_counted_access tx (assembled l v near overs g) c a) a) ≡ assembled (line_after l (walk_without_call (walk_after_told_fault (walk_after_counted_access cur (walk_at_line l x) c a) a))) v near overs None
+other_apart : (tx cur : TxId) (l : Line) (v x : Walk) (near : List (Key × Found)) (overs : List TxId) (g : Found)
+    (c : Command) (a : Answer) → (l.started == tx.number) ≡ false →
+    walk_without_call (walk_after_told_fault (walk_after_counted_access tx (assembled l v near overs g) c a) a) ≡ assembled
+    (line_after l (walk_without_call (walk_after_told_fault (walk_after_counted_access cur (walk_at_line l x) c a) a))) v
+    near overs None
 other_apart tx cur l v x near overs g c a apart =
-    let line : line_after l (walk_without_call (walk_after_told_fault (walk_after_counted_access cur (walk_at_line l x) c a) a)) ≡ ended l a =
-    ended_is l (walk_after_counted_access cur (walk_at_line l x) c a) a ∙ ap (λ k. ended k a) (counted_line l cur (walk_at_line l x) c a) in
-    let gone : walk_without_call (walk_after_told_fault (walk_after_counted_access tx (assembled l v near overs g) c a) a) ≡ assembled (ended l a) v near overs None = rw apart (ended_walk l v near overs g a) in
+    let line : line_after l (walk_without_call (walk_after_told_fault (walk_after_counted_access cur (walk_at_line l x) c a)
+    a)) ≡ ended l a =
+    ended_is l (walk_after_counted_access cur (walk_at_line l x) c a) a
+    ∙ ap (λ k. ended k a) (counted_line l cur (walk_at_line l x) c a) in
+    let gone : walk_without_call (walk_after_told_fault (walk_after_counted_access tx (assembled l v near overs g) c a) a)
+    ≡ assembled (ended l a) v near overs None = rw apart (ended_walk l v near overs g a) in
     gone ∙ sym (ap (λ (k : Line). assembled k v near overs None) line)
 
-begin_apart : (tx cur : TxId) (l : Line) (v x : Walk) (near : List (Key × Found)) (overs : List TxId) (g : Found) (mode : Mode) (timeout : ℕ) (a : Answer) →
-    walk_after_answer tx (assembled l v near overs g) (Some (command.Begin mode timeout)) a ≡ assembled (line_after l (walk_after_answer cur (walk_at_line l x) (Some (command.Begin mode timeout)) a)) v near overs None
+begin_apart : (tx cur : TxId) (l : Line) (v x : Walk) (near : List (Key × Found)) (overs : List TxId) (g : Found)
+    (mode : Mode) (timeout : ℕ) (a : Answer) →
+    walk_after_answer tx (assembled l v near overs g) (Some (command.Begin mode timeout)) a ≡ assembled
+    (line_after l (walk_after_answer cur (walk_at_line l x) (Some (command.Begin mode timeout)) a)) v near overs None
 begin_apart tx cur l v x near overs g mode timeout answer.Done = refl
 begin_apart tx cur l v x near overs g mode timeout (answer.Found value) = refl
 begin_apart tx cur l v x near overs g mode timeout answer.Absent = refl
@@ -198,17 +228,25 @@ begin_apart tx cur l v x near overs g mode timeout answer.Skipped = refl
 begin_apart tx cur l v x near overs g mode timeout (answer.NoCache cache) = refl
 
 -- an answer of another transaction's call changes no more than the session's part
-pub answer_apart : (tx cur : TxId) (l : Line) (v x : Walk) (near : List (Key × Found)) (overs : List TxId) (g : Found) (c : Command) (a : Answer) → (l.started == tx.number) ≡ false →
-    walk_after_answer tx (assembled l v near overs g) (Some c) a ≡ assembled (line_after l (walk_after_answer cur (walk_at_line l x) (Some c) a)) v near overs None
-answer_apart tx cur l v x near overs g (command.Begin mode timeout) a apart = begin_apart tx cur l v x near overs g mode timeout a
+pub answer_apart : (tx cur : TxId) (l : Line) (v x : Walk) (near : List (Key × Found)) (overs : List TxId) (g : Found)
+    (c : Command) (a : Answer) → (l.started == tx.number) ≡ false →
+    walk_after_answer tx (assembled l v near overs g) (Some c) a ≡ assembled
+    (line_after l (walk_after_answer cur (walk_at_line l x) (Some c) a)) v near overs None
+answer_apart tx cur l v x near overs g (command.Begin mode timeout) a apart =
+    begin_apart tx cur l v x near overs g mode timeout a
 answer_apart tx cur l v x near overs g command.Commit a apart = refl
 answer_apart tx cur l v x near overs g command.Rollback a apart = refl
 answer_apart tx cur l v x near overs g command.Close a apart = refl
-answer_apart tx cur l v x near overs g (command.Get key) a apart = other_apart tx cur l v x near overs g (command.Get key) a apart
-answer_apart tx cur l v x near overs g (command.Put key value) a apart = other_apart tx cur l v x near overs g (command.Put key value) a apart
-answer_apart tx cur l v x near overs g (command.Remove key) a apart = other_apart tx cur l v x near overs g (command.Remove key) a apart
-answer_apart tx cur l v x near overs g (command.Add key amount) a apart = other_apart tx cur l v x near overs g (command.Add key amount) a apart
-answer_apart tx cur l v x near overs g (command.Sleep n) a apart = other_apart tx cur l v x near overs g (command.Sleep n) a apart
+answer_apart tx cur l v x near overs g (command.Get key) a apart =
+    other_apart tx cur l v x near overs g (command.Get key) a apart
+answer_apart tx cur l v x near overs g (command.Put key value) a apart =
+    other_apart tx cur l v x near overs g (command.Put key value) a apart
+answer_apart tx cur l v x near overs g (command.Remove key) a apart =
+    other_apart tx cur l v x near overs g (command.Remove key) a apart
+answer_apart tx cur l v x near overs g (command.Add key amount) a apart =
+    other_apart tx cur l v x near overs g (command.Add key amount) a apart
+answer_apart tx cur l v x near overs g (command.Sleep n) a apart =
+    other_apart tx cur l v x near overs g (command.Sleep n) a apart
 
 -- How many transactions a session has started after an answer.
 
@@ -233,13 +271,16 @@ Starts before after = (after ≤ 2 ^ 64 - 1) × (before ≤ after)
 starts_same : (before after : ℕ) → after ≡ before → before ≤ 2 ^ 64 - 1 → Starts before after
 starts_same before after same fits = rw same (fits, omega arith)
 
-other_starts : (tx : TxId) (l : Line) (w : Walk) (c : Command) (a : Answer) → w.started ≤ 2 ^ 64 - 1 → Starts w.started (walk_without_call (walk_after_told_fault (walk_after_counted_access tx w c a) a)).started
+other_starts : (tx : TxId) (l : Line) (w : Walk) (c : Command) (a : Answer) → w.started ≤ 2 ^ 64 - 1 →
+    Starts w.started (walk_without_call (walk_after_told_fault (walk_after_counted_access tx w c a) a)).started
 other_starts tx l w c a fits =
     let same : (walk_without_call (walk_after_told_fault (walk_after_counted_access tx w c a) a)).started ≡ w.started =
-    ap (λ (k : Line). k.started) (ended_is l (walk_after_counted_access tx w c a) a ∙ ap (λ k. ended k a) (counted_line l tx w c a)) ∙ ended_started (line_after l w) a in
+    ap (λ (k : Line). k.started) (ended_is l (walk_after_counted_access tx w c a) a
+    ∙ ap (λ k. ended k a) (counted_line l tx w c a)) ∙ ended_started (line_after l w) a in
     starts_same w.started (walk_without_call (walk_after_told_fault (walk_after_counted_access tx w c a) a)).started same fits
 
-begin_starts : (tx : TxId) (w : Walk) (mode : Mode) (timeout : ℕ) (a : Answer) → w.started ≤ 2 ^ 64 - 1 → Starts w.started (walk_after_answer tx w (Some (command.Begin mode timeout)) a).started
+begin_starts : (tx : TxId) (w : Walk) (mode : Mode) (timeout : ℕ) (a : Answer) → w.started ≤ 2 ^ 64 - 1 →
+    Starts w.started (walk_after_answer tx w (Some (command.Begin mode timeout)) a).started
 begin_starts tx w mode timeout answer.Done fits = (omega (arith, fits), omega (arith, fits))
 begin_starts tx w mode timeout (answer.Found value) fits = (fits, omega arith)
 begin_starts tx w mode timeout answer.Absent fits = (fits, omega arith)
@@ -255,7 +296,8 @@ begin_starts tx w mode timeout answer.Skipped fits = (fits, omega arith)
 begin_starts tx w mode timeout (answer.NoCache cache) fits = (fits, omega arith)
 
 -- they are no fewer
-pub answer_starts : (tx : TxId) (l : Line) (w : Walk) (c : Command) (a : Answer) → w.started ≤ 2 ^ 64 - 1 → Starts w.started (walk_after_answer tx w (Some c) a).started
+pub answer_starts : (tx : TxId) (l : Line) (w : Walk) (c : Command) (a : Answer) → w.started ≤ 2 ^ 64 - 1 →
+    Starts w.started (walk_after_answer tx w (Some c) a).started
 answer_starts tx l w (command.Begin mode timeout) a fits = begin_starts tx w mode timeout a fits
 answer_starts tx l w command.Commit a fits = (fits, omega arith)
 answer_starts tx l w command.Rollback a fits = (fits, omega arith)

@@ -15,10 +15,12 @@ use Rattle.ordered_set.specs.Members.{has, with_member}
 use Rattle.ordered_table.proofs.Laws as laws
 use Rattle.ordered_table.specs.Entries.{at, put}
 
-pub tx_put_put : {V : Type 0} (es : List (TxId × V)) (tx : TxId) (v w : V) → put tx_cmp (put tx_cmp es tx v) tx w ≡ put tx_cmp es tx w
+pub tx_put_put : {V : Type 0} (es : List (TxId × V)) (tx : TxId) (v w : V) →
+    put tx_cmp (put tx_cmp es tx v) tx w ≡ put tx_cmp es tx w
 tx_put_put = laws.put_put tx_cmp tx_total
 
-pub node_put_put : {V : Type 0} (es : List (NodeId × V)) (node : NodeId) (v w : V) → put node_cmp (put node_cmp es node v) node w ≡ put node_cmp es node w
+pub node_put_put : {V : Type 0} (es : List (NodeId × V)) (node : NodeId) (v w : V) →
+    put node_cmp (put node_cmp es node v) node w ≡ put node_cmp es node w
 node_put_put = laws.put_put node_cmp node_total
 
 -- a transaction that is another one compares unequal
@@ -43,7 +45,9 @@ session_apart a b other tied = other (sym (exact_unsigned b a tied))
 pub keys_put : (es : List (TxId × Unit {0})) (tx : TxId) → keys_in (put tx_cmp es tx tt) ≡ with_member tx_cmp (keys_in es) tx
 keys_put [] tx = refl
 keys_put (e ∷ es) tx =
-    elim (tx_cmp tx e.0) as (λ r. tx_cmp tx e.0 ≡ r → keys_in (match_ordering r ((tx, tt) ∷ e ∷ es) ((tx, tt) ∷ es) (e ∷ put tx_cmp es tx tt)) ≡ match_ordering r (tx ∷ e.0 ∷ keys_in es) (e.0 ∷ keys_in es) (e.0 ∷ with_member tx_cmp (keys_in es) tx)) [
+    elim (tx_cmp tx e.0) as (λ r. tx_cmp tx e.0 ≡ r →
+    keys_in (match_ordering r ((tx, tt) ∷ e ∷ es) ((tx, tt) ∷ es) (e ∷ put tx_cmp es tx tt)) ≡ match_ordering r
+    (tx ∷ e.0 ∷ keys_in es) (e.0 ∷ keys_in es) (e.0 ∷ with_member tx_cmp (keys_in es) tx)) [
       | Less ↦ λ g. refl
       | Equal ↦ λ g. ap (λ (x : TxId). x ∷ keys_in es) (exact_txs tx e.0 g)
       | Greater ↦ λ g. ap (λ r. e.0 ∷ r) (keys_put es tx)
@@ -52,7 +56,8 @@ keys_put (e ∷ es) tx =
 pub has_keys : (es : List (TxId × Unit {0})) (tx : TxId) → has tx_cmp (keys_in es) tx ≡ is_some (at tx_cmp es tx)
 has_keys [] tx = refl
 has_keys (e ∷ es) tx =
-    elim (tx_cmp tx e.0) as (λ r. match_ordering r false true (has tx_cmp (keys_in es) tx) ≡ is_some (match_ordering r None (Some e.1) (at tx_cmp es tx))) [
+    elim (tx_cmp tx e.0) as (λ r. match_ordering r false true (has tx_cmp (keys_in es) tx) ≡ is_some
+    (match_ordering r None (Some e.1) (at tx_cmp es tx))) [
       | Less ↦ refl
       | Equal ↦ refl
       | Greater ↦ has_keys es tx

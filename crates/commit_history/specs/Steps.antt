@@ -104,7 +104,8 @@ walk_with_start_read m tx w (Some c) = record w { near_read = near_read_of m tx.
 
 abbrev pub walks_after_start : Walks → TxId → TopVer → Walks
 walks_after_start m tx top =
-    with_walk m tx (walk_with_start_read m tx (record (walk_of m tx) { top = Some top }) (open_call_of tx (session_line_of m tx.session)))
+    with_walk m tx (walk_with_start_read m tx (record (walk_of m tx) { top = Some top })
+    (open_call_of tx (session_line_of m tx.session)))
 
 abbrev pub walks_after_find : Walks → TxId → Key → Found → Walks
 walks_after_find m tx key f = if is_closed_in m tx then m

@@ -140,7 +140,8 @@ impl Walks {
     }
 
     fn call(&mut self, alloc: Global, session: u32, command: &Command) -> Mem<()>
-        ensures { OnOk result (self.new ≡ steps.walks_after_call self.old session command.now (steps.session_line_of self.old session)) }
+        ensures { OnOk result (self.new ≡ steps.walks_after_call self.old session command.now
+            (steps.session_line_of self.old session)) }
     {
         let Some(mut line) = self.line_of(session) else {
             return Ok(());
@@ -156,7 +157,8 @@ impl Walks {
     }
 
     fn answer(&mut self, alloc: Global, session: u32, answer: &Answer) -> Mem<()>
-        ensures { OnOk result (self.new ≡ steps.walks_after_answer self.old session answer.now (steps.session_line_of self.old session)) }
+        ensures { OnOk result (self.new ≡ steps.walks_after_answer self.old session answer.now
+            (steps.session_line_of self.old session)) }
     {
         let Some(mut line) = self.line_of(session) else {
             return Ok(());

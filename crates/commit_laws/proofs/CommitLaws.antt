@@ -9,4 +9,6 @@ use Rattle.scenes.specs.EachRun.{IsRunOf, is_short_run}
 use Rattle.transaction_laws.proofs.CountedRuns.{counted_holds}
 
 pub applies_hold : (events : ℕ) → is_short_run events ≡ true → (j : Journal) → IsRunOf events j → applies_are_committed j ≡ true
-applies_hold events short j run = (counted_holds CommitInvariant commits_lead (λ s is. commits_open s) j run.is_good (few events short j run) run.is_legal).commits.applied
+applies_hold events short j run =
+    (counted_holds CommitInvariant commits_lead (λ s is. commits_open s) j run.is_good (few events short j run)
+    run.is_legal).commits.applied

@@ -24,31 +24,40 @@ module _ (Known : TxId → Type 0) (R : NodeState → NodeState → Type 0) (kit
   finished_kept : (s : NodeState) (from : NodeId) (tx : TxId) → R s (after_finished s from tx)
   finished_kept s from tx =
       let near = after_finished_at_starter s from tx in
-      kit.andthen s near (after_finished s from tx) (near_finished_kept Known R kit s from tx) (recovery_finished_kept Known R kit near from tx)
+      kit.andthen s near (after_finished s from tx) (near_finished_kept Known R kit s from tx)
+      (recovery_finished_kept Known R kit near from tx)
 
-  backup_finished_kept : (s : NodeState) (from : NodeId) (tx : TxId) (primary : NodeId) → R s (after_backup_finished s from tx primary)
+  backup_finished_kept : (s : NodeState) (from : NodeId) (tx : TxId) (primary : NodeId) →
+      R s (after_backup_finished s from tx primary)
   backup_finished_kept s from tx primary =
       let own = after_backup_finished_at_primary s from tx primary in
       let near = after_backup_finished_at_starter own from tx primary in
       kit.andthen s own (after_backup_finished s from tx primary) (own_backup_finished_kept Known R kit s from tx primary)
-      (kit.andthen own near (after_backup_finished s from tx primary) (near_backup_finished_kept Known R kit own from tx primary) (recovery_backup_finished_kept Known R kit near from tx primary))
+      (kit.andthen own near (after_backup_finished s from tx primary)
+      (near_backup_finished_kept Known R kit own from tx primary)
+      (recovery_backup_finished_kept Known R kit near from tx primary))
 
   -- what the message ends as committed is known to be
-  pub message_kept : (s : NodeState) (from : NodeId) (m : Message) → ((tx : TxId) → committed_by m ≡ Some tx → Known tx) → R s (after_message s from m)
+  pub message_kept : (s : NodeState) (from : NodeId) (m : Message) → ((tx : TxId) → committed_by m ≡ Some tx → Known tx) →
+      R s (after_message s from m)
   message_kept s from (msg.Lock tx top key) known = lock_row_kept Known R kit s from tx top key
   message_kept s from (msg.LockOk tx key found) known = lock_ok_row_kept Known R kit s tx key found
   message_kept s from (msg.Get tx key near) known = get_row_kept Known R kit s from tx key near
   message_kept s from (msg.GetOk tx key found) known = get_ok_row_kept Known R kit s tx key found
-  message_kept s from (msg.Prepare tx top how shares wanted writes) known = prepare_row_kept Known R kit s from tx top how shares wanted writes
+  message_kept s from (msg.Prepare tx top how shares wanted writes) known =
+      prepare_row_kept Known R kit s from tx top how shares wanted writes
   message_kept s from (msg.Prepared tx) known = prepared_row_kept Known R kit s from tx
   message_kept s from (msg.PrepareFail tx why) known = prepare_fail_row_kept Known R kit s tx why
-  message_kept s from (msg.Finish tx commit) known = finish_row_kept Known R kit s from tx commit (λ is. known tx (ap (λ (b : Bool). committed_if b tx) is))
+  message_kept s from (msg.Finish tx commit) known =
+      finish_row_kept Known R kit s from tx commit (λ is. known tx (ap (λ (b : Bool). committed_if b tx) is))
   message_kept s from (msg.Finished tx) known = finished_kept s from tx
   message_kept s from (msg.Edges tx round asked) known = edges_row_kept Known R kit s from tx round asked
   message_kept s from (msg.EdgesOk tx round act waits) known = edges_ok_row_kept Known R kit s from tx round act waits
-  message_kept s from (msg.BackupPrepare tx top shares primary writes) known = backup_prepare_row_kept Known R kit s from tx top shares primary writes
+  message_kept s from (msg.BackupPrepare tx top shares primary writes) known =
+      backup_prepare_row_kept Known R kit s from tx top shares primary writes
   message_kept s from (msg.BackupPrepared tx) known = backup_prepared_row_kept Known R kit s from tx
-  message_kept s from (msg.BackupFinish tx primary commit) known = backup_finish_row_kept Known R kit s from tx primary commit (λ is. known tx (ap (λ (b : Bool). committed_if b tx) is))
+  message_kept s from (msg.BackupFinish tx primary commit) known = backup_finish_row_kept Known R kit s from tx primary commit
+      (λ is. known tx (ap (λ (b : Bool). committed_if b tx) is))
   message_kept s from (msg.BackupFinished tx primary) known = backup_finished_kept s from tx primary
   message_kept s from (msg.NearUpdate tx key new ver) known = near_update_row_kept Known R kit s from tx key new ver
   message_kept s from (msg.NearDone tx key) known = near_done_row_kept Known R kit s from tx key
@@ -61,7 +70,8 @@ module _ (Known : TxId → Type 0) (R : NodeState → NodeState → Type 0) (kit
   message_kept s from (msg.Complete top) known = complete_row_kept Known R kit s from top
   message_kept s from (msg.Orphans round list) known = orphans_row_kept Known R kit s from round list
 
-  effects_kept : (s : NodeState) (place : ℕ) (e : TopoEvent) → EntriesCommitted Known s.txs → R s (after_event_effects s place e)
+  effects_kept : (s : NodeState) (place : ℕ) (e : TopoEvent) → EntriesCommitted Known s.txs →
+      R s (after_event_effects s place e)
   effects_kept s place (topo.Left gone) known =
       let near = after_left_at_starter s gone in
       let primary = after_left_at_primary near gone in
@@ -80,4 +90,5 @@ module _ (Known : TxId → Type 0) (R : NodeState → NodeState → Type 0) (kit
       let learned = after_learn s e in
       let seen = with_note learned (note.See place) in
       kit.andthen s learned (after_see s place e) (learns_kept Known R kit s e)
-      (kit.andthen learned seen (after_see s place e) (kit.noting learned (note.See place) refl) (effects_kept seen place e known))
+      (kit.andthen learned seen (after_see s place e) (kit.noting learned (note.See place) refl)
+      (effects_kept seen place e known))

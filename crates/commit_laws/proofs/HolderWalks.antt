@@ -61,16 +61,21 @@ module _ (Known : TxId → Type 0) (R : NodeState → NodeState → Type 0) (kit
       kit.andthen s noted (after_grant s to tx top key) (kit.noting s (note.Grant tx top key) refl)
       (sent_kept Known R kit noted to (msg.LockOk tx key (found_at noted key)) refl)
 
-  lock_behind_kept : (s : NodeState) (from : NodeId) (tx : TxId) (top : TopVer) (key : Key) (owner : Option TxId) → R s (after_lock_behind s from tx top key owner)
+  lock_behind_kept : (s : NodeState) (from : NodeId) (tx : TxId) (top : TopVer) (key : Key) (owner : Option TxId) →
+      R s (after_lock_behind s from tx top key owner)
   lock_behind_kept s from tx top key None =
-      kit.andthen s (with_queued s tx key) (after_grant (with_queued s tx key) from tx top key) (kit.aside s (with_queued s tx key) refl) (grants_kept (with_queued s tx key) from tx top key)
+      kit.andthen s (with_queued s tx key) (after_grant (with_queued s tx key) from tx top key)
+      (kit.aside s (with_queued s tx key) refl) (grants_kept (with_queued s tx key) from tx top key)
   lock_behind_kept s from tx top key (Some owner) =
-      kit.andthen s (with_queued s tx key) (with_note (with_queued s tx key) (note.Queue tx key owner)) (kit.aside s (with_queued s tx key) refl) (kit.noting (with_queued s tx key) (note.Queue tx key owner) refl)
+      kit.andthen s (with_queued s tx key) (with_note (with_queued s tx key) (note.Queue tx key owner))
+      (kit.aside s (with_queued s tx key) refl) (kit.noting (with_queued s tx key) (note.Queue tx key owner) refl)
 
-  pub lock_row_kept : (s : NodeState) (from : NodeId) (tx : TxId) (top : TopVer) (key : Key) → R s (after_lock s from tx top key)
+  pub lock_row_kept : (s : NodeState) (from : NodeId) (tx : TxId) (top : TopVer) (key : Key) →
+      R s (after_lock s from tx top key)
   lock_row_kept s from tx top key = lock_behind_kept s from tx top key (owner_at s key)
 
-  passes_on_kept : (s : NodeState) (key : Key) (was_owner : Bool) (owner : Option TxId) → R s (after_pass_on s key was_owner owner)
+  passes_on_kept : (s : NodeState) (key : Key) (was_owner : Bool) (owner : Option TxId) →
+      R s (after_pass_on s key was_owner owner)
   passes_on_kept s key true (Some next) = grants_kept s next.node next (installed_top s) key
   passes_on_kept s key true None = kit.nothing s
   passes_on_kept s key false owner = kit.nothing s
@@ -112,13 +117,16 @@ module _ (Known : TxId → Type 0) (R : NodeState → NodeState → Type 0) (kit
       (reads_for_kept s from near key)
       (sent_kept Known R kit (with_reader_if s from near key) from (msg.GetOk tx key (found_at s key)) refl)
 
-  pub edges_row_kept : (s : NodeState) (from : NodeId) (tx : TxId) (round : ℕ) (txs : List TxId) → R s (after_edges s from tx round txs)
+  pub edges_row_kept : (s : NodeState) (from : NodeId) (tx : TxId) (round : ℕ) (txs : List TxId) →
+      R s (after_edges s from tx round txs)
   edges_row_kept s from tx round txs = let waits = edges_of s.queues txs in
-      kit.andthen s (with_note s (note.Waits tx round waits)) (with_out (with_note s (note.Waits tx round waits)) from (msg.EdgesOk tx round s.acts waits))
+      kit.andthen s (with_note s (note.Waits tx round waits)) (with_out (with_note s (note.Waits tx round waits)) from
+      (msg.EdgesOk tx round s.acts waits))
       (kit.noting s (note.Waits tx round waits) refl)
       (sent_kept Known R kit (with_note s (note.Waits tx round waits)) from (msg.EdgesOk tx round s.acts waits) refl)
 
-  pub applied_all_kept : (s : NodeState) (tx : TxId) (top : TopVer) (primary : NodeId) (ws : List Stored) → Known tx → R s (after_apply_each s tx top primary ws)
+  pub applied_all_kept : (s : NodeState) (tx : TxId) (top : TopVer) (primary : NodeId) (ws : List Stored) → Known tx →
+      R s (after_apply_each s tx top primary ws)
   applied_all_kept s tx top primary [] known = kit.nothing s
   applied_all_kept s tx top primary (w ∷ ws) known =
       let next = with_note (with_stored s w) (note.Apply tx top primary w.key w.value w.ver) in
@@ -129,55 +137,75 @@ module _ (Known : TxId → Type 0) (R : NodeState → NodeState → Type 0) (kit
   pub forgetting_kept : (s : NodeState) (tx : TxId) → R s (after_forget s tx)
   forgetting_kept s tx = kit.aside s (after_forget s tx) refl
 
-  pub begins_share_kept : (s : NodeState) (tx : TxId) (top : TopVer) (shares : List Share) (writes : List Stored) (nodes : List NodeId) → R s (after_begin_share s tx top shares writes nodes)
+  pub begins_share_kept : (s : NodeState) (tx : TxId) (top : TopVer) (shares : List Share) (writes : List Stored)
+      (nodes : List NodeId) → R s (after_begin_share s tx top shares writes nodes)
   begins_share_kept s tx top shares writes nodes =
       kit.andthen s (with_share s tx (new_share top shares writes nodes)) (after_begin_share s tx top shares writes nodes)
       (with_share_kept Known R kit s tx (new_share top shares writes nodes))
-      (kit.sent_all (with_share s tx (new_share top shares writes nodes)) (backup_prepare_outs s tx top shares writes nodes) (backup_prepare_tame s tx top shares writes nodes))
+      (kit.sent_all (with_share s tx (new_share top shares writes nodes)) (backup_prepare_outs s tx top shares writes nodes)
+      (backup_prepare_tame s tx top shares writes nodes))
 
-  pub draws_kept : (s : NodeState) (tx : TxId) (top : TopVer) (shares : List Share) (writes : List (Key × Option (List ℕ))) → R s (after_draw s tx top shares writes)
+  pub draws_kept : (s : NodeState) (tx : TxId) (top : TopVer) (shares : List Share) (writes : List (Key × Option (List ℕ))) →
+      R s (after_draw s tx top shares writes)
   draws_kept s tx top shares writes =
       kit.andthen s (record s { order = last_drawn s.order writes }) (after_draw s tx top shares writes)
       (kit.aside s (record s { order = last_drawn s.order writes }) refl)
       (begins_share_kept (record s { order = last_drawn s.order writes }) tx top shares
       (drawn_writes top s.me s.order writes) (backups_for s shares))
 
-  pub checked_kept : (s : NodeState) (from : NodeId) (tx : TxId) (top : TopVer) (shares : List Share) (wanted : List Wanted) (writes : List (Key × Option (List ℕ))) (why : Option Fail) → R s (after_check s from tx top shares wanted writes why)
+  pub checked_kept : (s : NodeState) (from : NodeId) (tx : TxId) (top : TopVer) (shares : List Share) (wanted : List Wanted)
+      (writes : List (Key × Option (List ℕ))) (why : Option Fail) → R s (after_check s from tx top shares wanted writes why)
   checked_kept s from tx top shares wanted writes None =
       kit.andthen s (after_own_each s tx top wanted) (after_draw (after_own_each s tx top wanted) tx top shares writes)
       (owns_each_kept s tx top wanted)
       (draws_kept (after_own_each s tx top wanted) tx top shares writes)
   checked_kept s from tx top shares wanted writes (Some why) = sent_kept Known R kit s from (msg.PrepareFail tx why) refl
 
-  pub prepare_in_kept : (s : NodeState) (from : NodeId) (tx : TxId) (top : TopVer) (how : Mode) (shares : List Share) (wanted : List Wanted) (writes : List (Key × Option (List ℕ))) → R s (after_prepare_in s from tx top how shares wanted writes)
+  pub prepare_in_kept : (s : NodeState) (from : NodeId) (tx : TxId) (top : TopVer) (how : Mode) (shares : List Share)
+      (wanted : List Wanted) (writes : List (Key × Option (List ℕ))) →
+      R s (after_prepare_in s from tx top how shares wanted writes)
   prepare_in_kept s from tx top mode.Pessimistic shares wanted writes = draws_kept s tx top shares writes
-  prepare_in_kept s from tx top mode.Optimistic shares wanted writes = checked_kept s from tx top shares wanted writes (failed_check s tx wanted)
+  prepare_in_kept s from tx top mode.Optimistic shares wanted writes = checked_kept s from tx top shares wanted writes
+      (failed_check s tx wanted)
 
-  pub prepare_row_kept : (s : NodeState) (from : NodeId) (tx : TxId) (top : TopVer) (how : Mode) (shares : List Share) (wanted : List Wanted) (writes : List (Key × Option (List ℕ))) → R s (after_prepare s from tx top how shares wanted writes)
+  pub prepare_row_kept : (s : NodeState) (from : NodeId) (tx : TxId) (top : TopVer) (how : Mode) (shares : List Share)
+      (wanted : List Wanted) (writes : List (Key × Option (List ℕ))) →
+      R s (after_prepare s from tx top how shares wanted writes)
   prepare_row_kept s from tx top how shares wanted writes =
       kit.andthen s (after_forget s tx) (after_prepare_in (after_forget s tx) from tx top how shares wanted writes)
       (forgetting_kept s tx)
       (prepare_in_kept (after_forget s tx) from tx top how shares wanted writes)
 
-  pub backup_prepared_in_kept : (s : NodeState) (from : NodeId) (tx : TxId) (st : ShareState) → R s (after_backup_prepared_in s from tx st)
+  pub backup_prepared_in_kept : (s : NodeState) (from : NodeId) (tx : TxId) (st : ShareState) →
+      R s (after_backup_prepared_in s from tx st)
   backup_prepared_in_kept s from tx Preparing =
-      on_share_kept Known R kit s tx (λ (h : OwnShare). record h { awaited = without_member node_cmp h.awaited from }) (share_of s tx)
+      on_share_kept Known R kit s tx (λ (h : OwnShare). record h { awaited = without_member node_cmp h.awaited from })
+      (share_of s tx)
   backup_prepared_in_kept s from tx Prepared = kit.nothing s
   backup_prepared_in_kept s from tx Committed = kit.nothing s
   backup_prepared_in_kept s from tx Undoing = kit.nothing s
 
-  pub backup_prepared_by_kept : (s : NodeState) (from : NodeId) (tx : TxId) (share : Option OwnShare) → R s (after_backup_prepared_of s from tx share)
+  pub backup_prepared_by_kept : (s : NodeState) (from : NodeId) (tx : TxId) (share : Option OwnShare) →
+      R s (after_backup_prepared_of s from tx share)
   backup_prepared_by_kept s from tx None = kit.nothing s
   backup_prepared_by_kept s from tx (Some h) = backup_prepared_in_kept s from tx h.state
 
   pub backup_prepared_row_kept : (s : NodeState) (from : NodeId) (tx : TxId) → R s (after_backup_prepared s from tx)
   backup_prepared_row_kept s from tx = backup_prepared_by_kept s from tx (share_of s tx)
 
-  pub begins_finish_kept : (s : NodeState) (tx : TxId) (st : ShareState) (from : NodeId) (nodes : List NodeId) (near : List NearWait) → R s (with_finish_begun s tx st from nodes near)
+  pub begins_finish_kept : (s : NodeState) (tx : TxId) (st : ShareState) (from : NodeId) (nodes : List NodeId)
+      (near : List NearWait) → R s (with_finish_begun s tx st from nodes near)
   begins_finish_kept s tx st from nodes near =
-      on_share_kept Known R kit s tx (λ (h : OwnShare). record h { state = st; awaited = nodes; near = near; askers = from ∷ [] }) (share_of s tx)
+      on_share_kept Known R kit s tx (λ (h : OwnShare). record h {
+        state = st;
+        awaited = nodes;
+        near = near;
+        askers =
+            from ∷ [];
+      }) (share_of s tx)
 
-  pub commits_share_kept : (s : NodeState) (from : NodeId) (tx : TxId) (h : OwnShare) (nodes : List NodeId) → Known tx → R s (after_commit_share s from tx h nodes)
+  pub commits_share_kept : (s : NodeState) (from : NodeId) (tx : TxId) (h : OwnShare) (nodes : List NodeId) → Known tx →
+      R s (after_commit_share s from tx h nodes)
   commits_share_kept s from tx h nodes known =
       let done = after_apply_each s tx h.top s.me h.writes in
       let begun = with_finish_begun done tx Committed from nodes (near_waits s h.writes) in
@@ -186,15 +214,20 @@ module _ (Known : TxId → Type 0) (R : NodeState → NodeState → Type 0) (kit
       (kit.andthen s done begun
       (applied_all_kept s tx h.top s.me h.writes known)
       (begins_finish_kept done tx Committed from nodes (near_waits s h.writes)))
-      (kit.finished begun tx outs known (both_end tx true (backup_finish_outs tx s.me true nodes) (near_outs s tx h.writes) (to_end tx true nodes (msg.BackupFinish tx s.me true) (ends_own tx true)) (tame_end tx true (near_outs s tx h.writes) (near_tame s tx h.writes))))
+      (kit.finished begun tx outs known (both_end tx true (backup_finish_outs tx s.me true nodes) (near_outs s tx h.writes)
+      (to_end tx true nodes (msg.BackupFinish tx s.me true) (ends_own tx true))
+      (tame_end tx true (near_outs s tx h.writes) (near_tame s tx h.writes))))
 
-  pub undoes_share_kept : (s : NodeState) (from : NodeId) (tx : TxId) (nodes : List NodeId) → R s (after_undo_share s from tx nodes)
+  pub undoes_share_kept : (s : NodeState) (from : NodeId) (tx : TxId) (nodes : List NodeId) →
+      R s (after_undo_share s from tx nodes)
   undoes_share_kept s from tx nodes =
       kit.andthen s (with_finish_begun s tx Undoing from nodes []) (after_undo_share s from tx nodes)
       (begins_finish_kept s tx Undoing from nodes [])
-      (kit.sent_all (with_finish_begun s tx Undoing from nodes []) (backup_finish_outs tx s.me false nodes) (to_tame nodes (msg.BackupFinish tx s.me false) refl))
+      (kit.sent_all (with_finish_begun s tx Undoing from nodes []) (backup_finish_outs tx s.me false nodes)
+      (to_tame nodes (msg.BackupFinish tx s.me false) refl))
 
-  pub finishing_kept : (s : NodeState) (from : NodeId) (tx : TxId) (commit : Bool) (h : OwnShare) (st : ShareState) → (commit ≡ true → Known tx) → R s (after_finish_in s from tx commit h st)
+  pub finishing_kept : (s : NodeState) (from : NodeId) (tx : TxId) (commit : Bool) (h : OwnShare) (st : ShareState) →
+      (commit ≡ true → Known tx) → R s (after_finish_in s from tx commit h st)
   finishing_kept s from tx true h Prepared known = commits_share_kept s from tx h (backups_for s h.shares) (known refl)
   finishing_kept s from tx true h Preparing known = sent_kept Known R kit s from (msg.Finished tx) refl
   finishing_kept s from tx true h Committed known = sent_kept Known R kit s from (msg.Finished tx) refl
@@ -206,32 +239,40 @@ module _ (Known : TxId → Type 0) (R : NodeState → NodeState → Type 0) (kit
 
   pub adds_asker_kept : (s : NodeState) (tx : TxId) (from : NodeId) → R s (with_asker s tx from)
   adds_asker_kept s tx from =
-      on_share_kept Known R kit s tx (λ (h : OwnShare). record h { askers = with_member node_cmp h.askers from }) (share_of s tx)
+      on_share_kept Known R kit s tx (λ (h : OwnShare). record h { askers = with_member node_cmp h.askers from })
+      (share_of s tx)
 
-  pub finish_at_kept : (s : NodeState) (from : NodeId) (tx : TxId) (commit : Bool) (h : OwnShare) (askers : List NodeId) → (commit ≡ true → Known tx) → R s (after_finish_at s from tx commit h askers)
+  pub finish_at_kept : (s : NodeState) (from : NodeId) (tx : TxId) (commit : Bool) (h : OwnShare) (askers : List NodeId) →
+      (commit ≡ true → Known tx) → R s (after_finish_at s from tx commit h askers)
   finish_at_kept s from tx commit h [] known = finishing_kept s from tx commit h h.state known
   finish_at_kept s from tx commit h (asker ∷ more) known = adds_asker_kept s tx from
 
-  pub finish_of_kept : (s : NodeState) (from : NodeId) (tx : TxId) (commit : Bool) (share : Option OwnShare) → (commit ≡ true → Known tx) → R s (after_finish_of s from tx commit share)
+  pub finish_of_kept : (s : NodeState) (from : NodeId) (tx : TxId) (commit : Bool) (share : Option OwnShare) →
+      (commit ≡ true → Known tx) → R s (after_finish_of s from tx commit share)
   finish_of_kept s from tx commit None known =
       kit.andthen s (after_release_all s tx) (with_out (after_release_all s tx) from (msg.Finished tx))
       (releases_kept s tx)
       (sent_kept Known R kit (after_release_all s tx) from (msg.Finished tx) refl)
   finish_of_kept s from tx commit (Some h) known = finish_at_kept s from tx commit h h.askers known
 
-  pub finish_row_kept : (s : NodeState) (from : NodeId) (tx : TxId) (commit : Bool) → (commit ≡ true → Known tx) → R s (after_finish s from tx commit)
+  pub finish_row_kept : (s : NodeState) (from : NodeId) (tx : TxId) (commit : Bool) → (commit ≡ true → Known tx) →
+      R s (after_finish s from tx commit)
   finish_row_kept s from tx commit known = finish_of_kept s from tx commit (share_of s tx) known
 
-  pub backup_finished_at_kept : (s : NodeState) (from : NodeId) (tx : TxId) (askers : List NodeId) → R s (after_backup_finished_in s from tx askers)
+  pub backup_finished_at_kept : (s : NodeState) (from : NodeId) (tx : TxId) (askers : List NodeId) →
+      R s (after_backup_finished_in s from tx askers)
   backup_finished_at_kept s from tx [] = kit.nothing s
   backup_finished_at_kept s from tx (asker ∷ more) =
-      on_share_kept Known R kit s tx (λ (h : OwnShare). record h { awaited = without_member node_cmp h.awaited from }) (share_of s tx)
+      on_share_kept Known R kit s tx (λ (h : OwnShare). record h { awaited = without_member node_cmp h.awaited from })
+      (share_of s tx)
 
-  pub backup_finished_by_kept : (s : NodeState) (from : NodeId) (tx : TxId) (share : Option OwnShare) → R s (after_backup_finished_of s from tx share)
+  pub backup_finished_by_kept : (s : NodeState) (from : NodeId) (tx : TxId) (share : Option OwnShare) →
+      R s (after_backup_finished_of s from tx share)
   backup_finished_by_kept s from tx None = kit.nothing s
   backup_finished_by_kept s from tx (Some h) = backup_finished_at_kept s from tx h.askers
 
-  pub own_backup_finished_kept : (s : NodeState) (from : NodeId) (tx : TxId) (primary : NodeId) → R s (after_backup_finished_at_primary s from tx primary)
+  pub own_backup_finished_kept : (s : NodeState) (from : NodeId) (tx : TxId) (primary : NodeId) →
+      R s (after_backup_finished_at_primary s from tx primary)
   own_backup_finished_kept s from tx primary =
       either_kept Known R kit s (after_backup_finished_of s from tx (share_of s tx)) s (same_node primary s.me)
       (backup_finished_by_kept s from tx (share_of s tx))
@@ -266,7 +307,8 @@ module _ (Known : TxId → Type 0) (R : NodeState → NodeState → Type 0) (kit
       (on_share_kept Known R kit s tx (λ (h : OwnShare). record h { state = Prepared }) (share_of s tx))
       (sent_kept Known R kit after tx.node (msg.Prepared tx) refl)
 
-  pub goes_on_kept : (s : NodeState) (tx : TxId) (h : OwnShare) (awaited : List NodeId) (near : List NearWait) (askers : List NodeId) (st : ShareState) → R s (after_advance_share_in s tx h awaited near askers st)
+  pub goes_on_kept : (s : NodeState) (tx : TxId) (h : OwnShare) (awaited : List NodeId) (near : List NearWait)
+      (askers : List NodeId) (st : ShareState) → R s (after_advance_share_in s tx h awaited near askers st)
   goes_on_kept s tx h [] [] (asker ∷ more) st = finish_over_kept s tx h
   goes_on_kept s tx h [] [] [] Preparing = is_prepared_kept s tx
   goes_on_kept s tx h [] [] [] Prepared = kit.nothing s
@@ -291,7 +333,8 @@ module _ (Known : TxId → Type 0) (R : NodeState → NodeState → Type 0) (kit
   pub shares_left_kept : (s : NodeState) (id : NodeId) (txs : List TxId) → R s (after_left_at_shares s id txs)
   shares_left_kept s id [] = kit.nothing s
   shares_left_kept s id (tx ∷ txs) = let next = on_share s tx (share_without_node id) (share_of s tx) in
-      kit.andthen s next (after_left_at_shares next id txs) (on_share_kept Known R kit s tx (share_without_node id) (share_of s tx)) (shares_left_kept next id txs)
+      kit.andthen s next (after_left_at_shares next id txs) (on_share_kept Known R kit s tx (share_without_node id)
+      (share_of s tx)) (shares_left_kept next id txs)
 
   pub primary_left_kept : (s : NodeState) (id : NodeId) → R s (after_left_at_primary s id)
   primary_left_kept s id = let here = after_left_at_shares s id (own_txs s) in
@@ -299,7 +342,8 @@ module _ (Known : TxId → Type 0) (R : NodeState → NodeState → Type 0) (kit
       (shares_left_kept s id (own_txs s))
       (kit.aside here (record here { readers = without_reader here.readers id }) refl)
 
-  pub backup_prepare_row_kept : (s : NodeState) (from : NodeId) (tx : TxId) (top : TopVer) (shares : List Share) (primary : NodeId) (writes : List Stored) → R s (after_backup_prepare s from tx top shares primary writes)
+  pub backup_prepare_row_kept : (s : NodeState) (from : NodeId) (tx : TxId) (top : TopVer) (shares : List Share)
+      (primary : NodeId) (writes : List Stored) → R s (after_backup_prepare s from tx top shares primary writes)
   backup_prepare_row_kept s from tx top shares primary writes =
       let old = after_forget s tx in
       let share : BackupShare = record { top = top; shares = shares; writes = writes; state = Prepared } in
@@ -308,7 +352,8 @@ module _ (Known : TxId → Type 0) (R : NodeState → NodeState → Type 0) (kit
       (kit.andthen s old kept (forgetting_kept s tx) (with_backup_kept Known R kit old tx primary share))
       (sent_kept Known R kit kept from (msg.BackupPrepared tx) refl)
 
-  pub commits_backup_kept : (s : NodeState) (tx : TxId) (primary : NodeId) (h : BackupShare) → Known tx → R s (after_commit_backup s tx primary h)
+  pub commits_backup_kept : (s : NodeState) (tx : TxId) (primary : NodeId) (h : BackupShare) → Known tx →
+      R s (after_commit_backup s tx primary h)
   commits_backup_kept s tx primary h known = let done = after_apply_each s tx h.top primary h.writes in
       kit.andthen s done (with_backup done tx primary (record h { state = Committed }))
       (applied_all_kept s tx h.top primary h.writes known)
@@ -317,25 +362,29 @@ module _ (Known : TxId → Type 0) (R : NodeState → NodeState → Type 0) (kit
   pub drops_backup_kept : (s : NodeState) (tx : TxId) (primary : NodeId) → R s (without_backup s tx primary)
   drops_backup_kept s tx primary = kit.aside s (without_backup s tx primary) refl
 
-  pub finishes_backup_kept : (s : NodeState) (tx : TxId) (primary : NodeId) (commit : Bool) (h : BackupShare) (st : ShareState) → (commit ≡ true → Known tx) → R s (after_backup_finish_in s tx primary commit h st)
+  pub finishes_backup_kept : (s : NodeState) (tx : TxId) (primary : NodeId) (commit : Bool) (h : BackupShare)
+      (st : ShareState) → (commit ≡ true → Known tx) → R s (after_backup_finish_in s tx primary commit h st)
   finishes_backup_kept s tx primary true h Prepared known = commits_backup_kept s tx primary h (known refl)
   finishes_backup_kept s tx primary true h Preparing known = kit.nothing s
   finishes_backup_kept s tx primary true h Committed known = kit.nothing s
   finishes_backup_kept s tx primary true h Undoing known = kit.nothing s
   finishes_backup_kept s tx primary false h st known = drops_backup_kept s tx primary
 
-  pub backup_finish_by_kept : (s : NodeState) (tx : TxId) (primary : NodeId) (commit : Bool) (share : Option BackupShare) → (commit ≡ true → Known tx) → R s (after_backup_finish_of s tx primary commit share)
+  pub backup_finish_by_kept : (s : NodeState) (tx : TxId) (primary : NodeId) (commit : Bool) (share : Option BackupShare) →
+      (commit ≡ true → Known tx) → R s (after_backup_finish_of s tx primary commit share)
   backup_finish_by_kept s tx primary commit None known = kit.nothing s
   backup_finish_by_kept s tx primary commit (Some h) known = finishes_backup_kept s tx primary commit h h.state known
 
-  pub backup_finish_row_kept : (s : NodeState) (from : NodeId) (tx : TxId) (primary : NodeId) (commit : Bool) → (commit ≡ true → Known tx) → R s (after_backup_finish s from tx primary commit)
+  pub backup_finish_row_kept : (s : NodeState) (from : NodeId) (tx : TxId) (primary : NodeId) (commit : Bool) →
+      (commit ≡ true → Known tx) → R s (after_backup_finish s from tx primary commit)
   backup_finish_row_kept s from tx primary commit known =
       let after = after_backup_finish_of s tx primary commit (backup_of s tx primary) in
       kit.andthen s after (with_out after from (msg.BackupFinished tx primary))
       (backup_finish_by_kept s tx primary commit (backup_of s tx primary) known)
       (sent_kept Known R kit after from (msg.BackupFinished tx primary) refl)
 
-  pub demand_row_kept : (s : NodeState) (from : NodeId) (top : TopVer) (part : ℕ) (after : Option Key) → R s (after_demand s from top part after)
+  pub demand_row_kept : (s : NodeState) (from : NodeId) (top : TopVer) (part : ℕ) (after : Option Key) →
+      R s (after_demand s from top part after)
   demand_row_kept s from top part after =
       let copy : Copy = copy_at s.stores part in
       let m : Message = msg.Supply top part (batch_of copy after batch_size) (is_last_batch copy after batch_size) in
@@ -345,7 +394,8 @@ module _ (Known : TxId → Type 0) (R : NodeState → NodeState → Type 0) (kit
   with_copy_kept s part copy = kit.aside s (with_copy s part copy) refl
 
   pub claims_if_all_kept : (s : NodeState) (top : TopVer) → R s (after_claim_if_all s top)
-  claims_if_all_kept s top = either_kept Known R kit s (with_out_to_oldest s (msg.Complete top) (oldest_seen s)) s (all_filled s)
+  claims_if_all_kept s top = either_kept Known R kit s (with_out_to_oldest s (msg.Complete top) (oldest_seen s)) s
+      (all_filled s)
       (sent_to_oldest_kept Known R kit s (msg.Complete top) (oldest_seen s) refl) (kit.nothing s)
 
   pub completes_kept : (s : NodeState) (top : TopVer) (part : ℕ) → R s (after_complete_part s top part)
@@ -355,15 +405,19 @@ module _ (Known : TxId → Type 0) (R : NodeState → NodeState → Type 0) (kit
       } in
       kit.andthen s here (after_claim_if_all here top) (kit.aside s here refl) (claims_if_all_kept here top)
 
-  pub supplied_to_kept : (s : NodeState) (from : NodeId) (top : TopVer) (part : ℕ) (entries : List Stored) (last : Bool) → R s (after_supplied s from top part entries last)
+  pub supplied_to_kept : (s : NodeState) (from : NodeId) (top : TopVer) (part : ℕ) (entries : List Stored) (last : Bool) →
+      R s (after_supplied s from top part entries last)
   supplied_to_kept s from top part entries true = completes_kept s top part
   supplied_to_kept s from top part entries false = sent_kept Known R kit s from (msg.Demand top part (last_key entries)) refl
 
-  pub supply_row_kept : (s : NodeState) (from : NodeId) (top : TopVer) (part : ℕ) (entries : List Stored) (last : Bool) → R s (after_supply s from top part entries last)
+  pub supply_row_kept : (s : NodeState) (from : NodeId) (top : TopVer) (part : ℕ) (entries : List Stored) (last : Bool) →
+      R s (after_supply s from top part entries last)
   supply_row_kept s from top part entries last =
       let here : NodeState = with_copy s part (copy_after_supply (copy_at s.stores part) entries) in
       either_kept Known R kit s (after_supplied here from top part entries last) s (is_installed s top)
-      (kit.andthen s here (after_supplied here from top part entries last) (with_copy_kept s part (copy_after_supply (copy_at s.stores part) entries)) (supplied_to_kept here from top part entries last))
+      (kit.andthen s here (after_supplied here from top part entries last)
+      (with_copy_kept s part (copy_after_supply (copy_at s.stores part) entries))
+      (supplied_to_kept here from top part entries last))
       (kit.nothing s)
 
   pub complete_row_kept : (s : NodeState) (from : NodeId) (top : TopVer) → R s (after_complete s from top)
@@ -387,24 +441,29 @@ module _ (Known : TxId → Type 0) (R : NodeState → NodeState → Type 0) (kit
   on_round_kept s f None = kit.nothing s
   on_round_kept s f (Some r) = kit.aside s (record s { round = Some (f r) }) refl
 
-  pub awaits_verdict_kept : (s : NodeState) (tx : TxId) (nodes : List NodeId) (backups : List Share) → R s (with_verdict_awaited s tx nodes backups)
+  pub awaits_verdict_kept : (s : NodeState) (tx : TxId) (nodes : List NodeId) (backups : List Share) →
+      R s (with_verdict_awaited s tx nodes backups)
   awaits_verdict_kept s tx nodes backups = on_round_kept s (λ (r : Round). record r {
     finishes = with_finish_waits r.finishes tx nodes;
     backups = with_backup_waits r.backups tx backups;
   }) s.round
 
-  pub gives_verdict_kept : (s : NodeState) (tx : TxId) (commit : Bool) (shares : List Share) (nodes : List NodeId) → R s (after_give_verdict s tx commit shares nodes)
+  pub gives_verdict_kept : (s : NodeState) (tx : TxId) (commit : Bool) (shares : List Share) (nodes : List NodeId) →
+      R s (after_give_verdict s tx commit shares nodes)
   gives_verdict_kept s tx commit shares nodes = by s.round
     where
       noted : NodeState
       noted = with_note (record s { verdicts = put tx_cmp s.verdicts tx commit }) (note.Decide tx commit)
 
       outs : List Out
-      outs = outs_to (finish_nodes s shares nodes) (msg.Finish tx commit) ++ finishes_for_lost s tx commit shares (lost_among s (primaries_of shares))
+      outs = outs_to (finish_nodes s shares nodes) (msg.Finish tx commit) ++ finishes_for_lost s tx commit shares
+          (lost_among s (primaries_of shares))
 
       ends : list_all (is_end_of tx commit) outs ≡ true
-      ends = both_end tx commit (outs_to (finish_nodes s shares nodes) (msg.Finish tx commit)) (finishes_for_lost s tx commit shares (lost_among s (primaries_of shares)))
-          (to_end tx commit (finish_nodes s shares nodes) (msg.Finish tx commit) (ends_own tx commit)) (lost_end s tx commit shares (lost_among s (primaries_of shares)))
+      ends = both_end tx commit (outs_to (finish_nodes s shares nodes) (msg.Finish tx commit))
+          (finishes_for_lost s tx commit shares (lost_among s (primaries_of shares)))
+          (to_end tx commit (finish_nodes s shares nodes) (msg.Finish tx commit) (ends_own tx commit))
+          (lost_end s tx commit shares (lost_among s (primaries_of shares)))
 
       awaits : Round → Round
       awaits = λ (r : Round). record r {
@@ -416,13 +475,16 @@ module _ (Known : TxId → Type 0) (R : NodeState → NodeState → Type 0) (kit
       by None = kit.decided s (with_outs noted outs) tx commit outs refl refl ends
       by (Some r) = kit.decided s (with_outs (record noted { round = Some (awaits r) }) outs) tx commit outs refl refl ends
 
-  pub judges_kept : (s : NodeState) (tx : TxId) (members : List Member) (orphans : List Orphan) (nodes : List NodeId) → R s (after_judge s tx members orphans nodes)
+  pub judges_kept : (s : NodeState) (tx : TxId) (members : List Member) (orphans : List Orphan) (nodes : List NodeId) →
+      R s (after_judge s tx members orphans nodes)
   judges_kept s tx members orphans nodes =
-      either_kept Known R kit s s (after_give_verdict s tx (verdict (at tx_cmp s.verdicts tx) orphans members) (shares_named orphans) nodes) (is_settled orphans)
+      either_kept Known R kit s s (after_give_verdict s tx (verdict (at tx_cmp s.verdicts tx) orphans members)
+      (shares_named orphans) nodes) (is_settled orphans)
       (kit.nothing s)
       (gives_verdict_kept s tx (verdict (at tx_cmp s.verdicts tx) orphans members) (shares_named orphans) nodes)
 
-  pub judges_each_kept : (s : NodeState) (members : List Member) (reports : List Report) (txs : List TxId) → R s (after_judge_each s members reports txs)
+  pub judges_each_kept : (s : NodeState) (members : List Member) (reports : List Report) (txs : List TxId) →
+      R s (after_judge_each s members reports txs)
   judges_each_kept s members reports [] = kit.nothing s
   judges_each_kept s members reports (tx ∷ txs) =
       let judged : NodeState = after_judge s tx members (orphans_for tx reports) (lockers tx reports) in
@@ -432,24 +494,28 @@ module _ (Known : TxId → Type 0) (R : NodeState → NodeState → Type 0) (kit
   pub has_acted_kept : (s : NodeState) → R s (with_round_acted s)
   has_acted_kept s = on_round_kept s (λ (r : Round). record r { acted = true }) s.round
 
-  pub acts_on_round_kept : (s : NodeState) (members : List Member) (reports : List Report) → R s (after_act_on_round s members reports)
+  pub acts_on_round_kept : (s : NodeState) (members : List Member) (reports : List Report) →
+      R s (after_act_on_round s members reports)
   acts_on_round_kept s members reports =
       kit.andthen s (with_round_acted s) (after_judge_each (with_round_acted s) members reports (names_of reports))
       (has_acted_kept s) (judges_each_kept (with_round_acted s) members reports (names_of reports))
 
   pub recovers_with_kept : (s : NodeState) (r : Round) (reports : List Report) → R s (after_recover_with s r reports)
-  recovers_with_kept s r reports = either_kept Known R kit s (after_act_on_round s r.members reports) s (all_reported r.members reports)
+  recovers_with_kept s r reports = either_kept Known R kit s (after_act_on_round s r.members reports) s
+      (all_reported r.members reports)
       (acts_on_round_kept s r.members reports) (kit.nothing s)
 
   pub recovers_if_all_kept : (s : NodeState) (found : Option Round) → R s (after_recover_if_all s found)
   recovers_if_all_kept s None = kit.nothing s
-  recovers_if_all_kept s (Some r) = either_kept Known R kit s (after_recover_with s r (reports_for s.reports r.place)) s (is_recoverer s r && not r.acted)
+  recovers_if_all_kept s (Some r) = either_kept Known R kit s (after_recover_with s r (reports_for s.reports r.place)) s
+      (is_recoverer s r && not r.acted)
       (recovers_with_kept s r (reports_for s.reports r.place)) (kit.nothing s)
 
   pub reports_more_kept : (s : NodeState) (r : Report) → R s (with_report s r)
   reports_more_kept s r = kit.aside s (with_report s r) refl
 
-  pub orphans_row_kept : (s : NodeState) (from : NodeId) (round : ℕ) (list : List Orphan) → R s (after_orphans s from round list)
+  pub orphans_row_kept : (s : NodeState) (from : NodeId) (round : ℕ) (list : List Orphan) →
+      R s (after_orphans s from round list)
   orphans_row_kept s from round list = let here : NodeState = record s {
     reports = s.reports ++ record { round = round; from = from; list = list } ∷ [];
   } in kit.andthen s here (after_recover_if_all here here.round) (kit.aside s here refl) (recovers_if_all_kept here here.round)
@@ -461,7 +527,8 @@ module _ (Known : TxId → Type 0) (R : NodeState → NodeState → Type 0) (kit
     finishes = without_member finish_wait_cmp r.finishes (record { tx = tx; node = from });
   }) s.round
 
-  pub recovery_backup_finished_kept : (s : NodeState) (from : NodeId) (tx : TxId) (primary : NodeId) → R s (after_backup_finished_at_recoverer s from tx primary)
+  pub recovery_backup_finished_kept : (s : NodeState) (from : NodeId) (tx : TxId) (primary : NodeId) →
+      R s (after_backup_finished_at_recoverer s from tx primary)
   recovery_backup_finished_kept s from tx primary = on_round_kept s (λ (r : Round). record r {
     backups = without_member backup_wait_cmp r.backups (record { tx = tx; primary = primary; holder = from });
   }) s.round
@@ -481,7 +548,8 @@ module _ (Known : TxId → Type 0) (R : NodeState → NodeState → Type 0) (kit
     near = [];
     readers = [];
     shares = without_each tx_cmp s.shares (keys_where (λ (e : TxId × OwnShare). is_kept_commit e.1.state) s.shares);
-    backups = without_each backup_cmp s.backups (keys_where (λ (e : BackupName × BackupShare). is_kept_commit e.1.state) s.backups);
+    backups = without_each backup_cmp s.backups (keys_where (λ (e : BackupName × BackupShare). is_kept_commit e.1.state)
+        s.backups);
     complete = [];
     claims = [];
   }
@@ -493,7 +561,8 @@ module _ (Known : TxId → Type 0) (R : NodeState → NodeState → Type 0) (kit
   -- Opening.
 
   pub demands_kept : (s : NodeState) → R s (after_send_demands s)
-  demands_kept s = kit.sent_all s (demand_outs s.me (installed_top s) 0 (rows_of s)) (demands_tame s.me (installed_top s) 0 (rows_of s))
+  demands_kept s = kit.sent_all s (demand_outs s.me (installed_top s) 0 (rows_of s))
+      (demands_tame s.me (installed_top s) 0 (rows_of s))
 
   pub opens_row_kept : (s : NodeState) (top : TopVer) → R s (after_opens s top)
   opens_row_kept s top =
@@ -501,7 +570,8 @@ module _ (Known : TxId → Type 0) (R : NodeState → NodeState → Type 0) (kit
       let noted : NodeState = with_note opening (note.Opened top) in
       kit.andthen s noted (after_send_demands (after_start_all noted))
       (kit.andthen s opening noted (kit.aside s opening refl) (kit.noting opening (note.Opened top) refl))
-      (kit.andthen noted (after_start_all noted) (after_send_demands (after_start_all noted)) (starts_all_kept Known R kit noted) (demands_kept (after_start_all noted)))
+      (kit.andthen noted (after_start_all noted) (after_send_demands (after_start_all noted))
+      (starts_all_kept Known R kit noted) (demands_kept (after_start_all noted)))
 
   -- The coordinator.
 
@@ -510,12 +580,14 @@ module _ (Known : TxId → Type 0) (R : NodeState → NodeState → Type 0) (kit
       let over : NodeState = record s { exchange = None } in
       let told : NodeState = with_outs over (outs_to (others_seen s) (msg.Opens top)) in
       kit.andthen s told (after_opens told top)
-      (kit.andthen s over told (kit.aside s over refl) (kit.sent_all over (outs_to (others_seen s) (msg.Opens top)) (to_tame (others_seen s) (msg.Opens top) refl)))
+      (kit.andthen s over told (kit.aside s over refl) (kit.sent_all over (outs_to (others_seen s) (msg.Opens top))
+      (to_tame (others_seen s) (msg.Opens top) refl)))
       (opens_row_kept told top)
 
   pub opens_if_all_kept : (s : NodeState) (found : Option Exchange) → R s (after_open_if_all s found)
   opens_if_all_kept s None = kit.nothing s
-  opens_if_all_kept s (Some x) = either_kept Known R kit s (after_open_for_all s x.top) s (all_installed s.members x.installed) (opens_for_all_kept s x.top) (kit.nothing s)
+  opens_if_all_kept s (Some x) = either_kept Known R kit s (after_open_for_all s x.top) s
+      (all_installed s.members x.installed) (opens_for_all_kept s x.top) (kit.nothing s)
 
   pub counts_kept : (s : NodeState) (x : Exchange) → R s (after_count s x)
   counts_kept s x =
@@ -533,12 +605,15 @@ module _ (Known : TxId → Type 0) (R : NodeState → NodeState → Type 0) (kit
       let own : Exchange = record { top = m.top; installed = s.me ∷ [] } in
       kit.andthen s there (after_count told own)
       (kit.andthen s fewer there (without_singles_kept s m.top) (installs_kept fewer m))
-      (kit.andthen there told (after_count told own) (kit.sent_all there (outs_to (others_seen s) (msg.Full m)) (to_tame (others_seen s) (msg.Full m) refl)) (counts_kept told own))
+      (kit.andthen there told (after_count told own) (kit.sent_all there (outs_to (others_seen s) (msg.Full m))
+      (to_tame (others_seen s) (msg.Full m) refl)) (counts_kept told own))
 
   pub computes_if_all_kept : (s : NodeState) → R s (after_compute_if_all s)
-  computes_if_all_kept s = either_kept Known R kit s (after_compute s (next_map_seen s)) s (may_compute s) (computes_kept s (next_map_seen s)) (kit.nothing s)
+  computes_if_all_kept s = either_kept Known R kit s (after_compute s (next_map_seen s)) s (may_compute s)
+      (computes_kept s (next_map_seen s)) (kit.nothing s)
 
-  pub single_row_kept : (s : NodeState) (from : NodeId) (top : TopVer) (m : Option PartMap) (complete : List ℕ) → R s (after_single s from top m complete)
+  pub single_row_kept : (s : NodeState) (from : NodeId) (top : TopVer) (m : Option PartMap) (complete : List ℕ) →
+      R s (after_single s from top m complete)
   single_row_kept s from top m complete =
       let here : NodeState = record s {
         singles = s.singles ++ record { from = from; top = top; map = m; complete = complete } ∷ [];
@@ -546,13 +621,17 @@ module _ (Known : TxId → Type 0) (R : NodeState → NodeState → Type 0) (kit
       kit.andthen s here (after_compute_if_all here) (kit.aside s here refl) (computes_if_all_kept here)
 
   pub full_row_kept : (s : NodeState) (from : NodeId) (m : PartMap) → R s (after_full s from m)
-  full_row_kept s from m = either_kept Known R kit s (with_out (after_install s m) from (msg.Installed m.top)) s (is_newer_map m s.installed)
-      (kit.andthen s (after_install s m) (with_out (after_install s m) from (msg.Installed m.top)) (installs_kept s m) (kit.sent_all (after_install s m) (record { to = from; msg = msg.Installed m.top } ∷ []) refl))
+  full_row_kept s from m = either_kept Known R kit s (with_out (after_install s m) from (msg.Installed m.top)) s
+      (is_newer_map m s.installed)
+      (kit.andthen s (after_install s m) (with_out (after_install s m) from (msg.Installed m.top)) (installs_kept s m)
+      (kit.sent_all (after_install s m) (record { to = from; msg = msg.Installed m.top } ∷ []) refl))
       (kit.nothing s)
 
-  pub counts_installed_kept : (s : NodeState) (from : NodeId) (top : TopVer) (found : Option Exchange) → R s (after_count_installed s from top found)
+  pub counts_installed_kept : (s : NodeState) (from : NodeId) (top : TopVer) (found : Option Exchange) →
+      R s (after_count_installed s from top found)
   counts_installed_kept s from top None = kit.nothing s
-  counts_installed_kept s from top (Some x) = let more : Exchange = record x { installed = with_member node_cmp x.installed from } in
+  counts_installed_kept s from top (Some x) = let more : Exchange =
+      record x { installed = with_member node_cmp x.installed from } in
       either_kept Known R kit s (after_count s more) s (same_top x.top top) (counts_kept s more) (kit.nothing s)
 
   pub installed_row_kept : (s : NodeState) (from : NodeId) (top : TopVer) → R s (after_installed s from top)
@@ -569,7 +648,8 @@ module _ (Known : TxId → Type 0) (R : NodeState → NodeState → Type 0) (kit
       (sent_to_oldest_kept Known R kit marked (msg.Single s.seen s.installed s.complete) (oldest_seen s) refl)
 
   pub single_if_drained_kept : (s : NodeState) → R s (after_single_if_drained s)
-  single_if_drained_kept s = either_kept Known R kit s (after_send_single s) s (owes_single s) (sends_single_kept s) (kit.nothing s)
+  single_if_drained_kept s = either_kept Known R kit s (after_send_single s) s (owes_single s) (sends_single_kept s)
+      (kit.nothing s)
 
   pub closed_kept : (s : NodeState) → R s (after_closing_rules s)
   closed_kept s =
@@ -580,4 +660,5 @@ module _ (Known : TxId → Type 0) (R : NodeState → NodeState → Type 0) (kit
       kit.andthen s shared (after_single_if_drained second) (shares_on_kept s (own_txs s))
       (kit.andthen shared first (after_single_if_drained second) (near_on_kept Known R kit shared)
       (kit.andthen first started (after_single_if_drained second) (starts_all_kept Known R kit first)
-      (kit.andthen started second (after_single_if_drained second) (near_on_kept Known R kit started) (single_if_drained_kept second))))
+      (kit.andthen started second (after_single_if_drained second) (near_on_kept Known R kit started)
+      (single_if_drained_kept second))))

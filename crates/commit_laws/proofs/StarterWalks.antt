@@ -62,10 +62,12 @@ module _ (Known : TxId → Type 0) (R : NodeState → NodeState → Type 0) (kit
   either_kept s x y true first second = first
   either_kept s x y false first second = second
 
-  pub with_session_state_kept : (s : NodeState) (session : ℕ) (session_state : SessionState) → R s (with_session_state s session session_state)
+  pub with_session_state_kept : (s : NodeState) (session : ℕ) (session_state : SessionState) →
+      R s (with_session_state s session session_state)
   with_session_state_kept s session session_state = kit.aside s (with_session_state s session session_state) refl
 
-  pub on_session_state_kept : (s : NodeState) (session : ℕ) (f : SessionState → SessionState) (d : Option SessionState) → R s (on_session_state s session f d)
+  pub on_session_state_kept : (s : NodeState) (session : ℕ) (f : SessionState → SessionState) (d : Option SessionState) →
+      R s (on_session_state s session f d)
   on_session_state_kept s session f None = kit.nothing s
   on_session_state_kept s session f (Some session_state) = with_session_state_kept s session (f session_state)
 
@@ -80,19 +82,23 @@ module _ (Known : TxId → Type 0) (R : NodeState → NodeState → Type 0) (kit
   with_near_kept s key near = kit.aside s (with_near s key near) refl
 
   pub answered_kept : (s : NodeState) (session : ℕ) (a : Answer) → R s (with_answer_ready s session a)
-  answered_kept s session a = on_session_state_kept s session (λ (d : SessionState). record d { ready = Some a }) (session_state_of s session)
+  answered_kept s session a = on_session_state_kept s session (λ (d : SessionState). record d { ready = Some a })
+      (session_state_of s session)
 
   pub with_share_kept : (s : NodeState) (tx : TxId) (share : OwnShare) → R s (with_share s tx share)
   with_share_kept s tx share = kit.aside s (with_share s tx share) refl
 
-  pub on_share_kept : (s : NodeState) (tx : TxId) (f : OwnShare → OwnShare) (share : Option OwnShare) → R s (on_share s tx f share)
+  pub on_share_kept : (s : NodeState) (tx : TxId) (f : OwnShare → OwnShare) (share : Option OwnShare) →
+      R s (on_share s tx f share)
   on_share_kept s tx f None = kit.nothing s
   on_share_kept s tx f (Some share) = with_share_kept s tx (f share)
 
-  pub with_backup_kept : (s : NodeState) (tx : TxId) (primary : NodeId) (share : BackupShare) → R s (with_backup s tx primary share)
+  pub with_backup_kept : (s : NodeState) (tx : TxId) (primary : NodeId) (share : BackupShare) →
+      R s (with_backup s tx primary share)
   with_backup_kept s tx primary share = kit.aside s (with_backup s tx primary share) refl
 
-  pub sent_to_oldest_kept : (s : NodeState) (m : Message) (to : Option NodeId) → is_tame m ≡ true → R s (with_out_to_oldest s m to)
+  pub sent_to_oldest_kept : (s : NodeState) (m : Message) (to : Option NodeId) → is_tame m ≡ true →
+      R s (with_out_to_oldest s m to)
   sent_to_oldest_kept s m None plain = kit.nothing s
   sent_to_oldest_kept s m (Some oldest_in) plain = sent_kept s oldest_in m plain
 
@@ -106,9 +112,12 @@ module _ (Known : TxId → Type 0) (R : NodeState → NodeState → Type 0) (kit
       outs : List Out
       outs = decision_outs s tx commit e
 
-      by : (o : Option TxEntry) → R s (with_outs (with_note (on_entry s tx (decided_entry s commit) o) (note.Decide tx commit)) outs)
-      by None = kit.decided s (with_outs (with_note s (note.Decide tx commit)) outs) tx commit outs refl refl (decision_ends s tx commit e)
-      by (Some x) = kit.decided s (with_outs (with_note (with_entry s tx (decided_entry s commit x)) (note.Decide tx commit)) outs) tx commit outs refl refl (decision_ends s tx commit e)
+      by : (o : Option TxEntry) →
+          R s (with_outs (with_note (on_entry s tx (decided_entry s commit) o) (note.Decide tx commit)) outs)
+      by None = kit.decided s (with_outs (with_note s (note.Decide tx commit)) outs) tx commit outs refl refl
+          (decision_ends s tx commit e)
+      by (Some x) = kit.decided s (with_outs (with_note (with_entry s tx (decided_entry s commit x)) (note.Decide tx commit))
+          outs) tx commit outs refl refl (decision_ends s tx commit e)
 
   pub decides_kept : (s : NodeState) (tx : TxId) (commit : Bool) → R s (after_decide s tx commit)
   decides_kept s tx commit = decides_for_kept s tx commit (entry_of s tx)
@@ -128,7 +137,8 @@ module _ (Known : TxId → Type 0) (R : NodeState → NodeState → Type 0) (kit
   pub tells_kept : (s : NodeState) (tx : TxId) (f : Fault) (c : Command) → R s (after_tell s tx f c)
   tells_kept s tx f c =
       let gone = without_tx s tx in
-      kit.andthen s gone _ (without_tx_kept s tx) (on_session_state_kept gone tx.session (session_state_after_fault f c) (session_state_of gone tx.session))
+      kit.andthen s gone _ (without_tx_kept s tx) (on_session_state_kept gone tx.session (session_state_after_fault f c)
+      (session_state_of gone tx.session))
 
   pub keeps_fault_kept : (s : NodeState) (tx : TxId) → R s (with_fault_kept s tx)
   keeps_fault_kept s tx = on_entry_kept s tx (λ (e : TxEntry). record e { state = state.Ended }) (entry_of s tx)
@@ -145,13 +155,16 @@ module _ (Known : TxId → Type 0) (R : NodeState → NodeState → Type 0) (kit
   closes_kept s tx a =
       let gone = without_tx s tx in
       kit.andthen s gone _ (without_tx_kept s tx)
-      (on_session_state_kept gone tx.session (λ (d : SessionState). record d { tx = None; block = false; ready = Some a }) (session_state_of gone tx.session))
+      (on_session_state_kept gone tx.session (λ (d : SessionState). record d { tx = None; block = false; ready = Some a })
+      (session_state_of gone tx.session))
 
-  pub ends_kept : (s : NodeState) (tx : TxId) (st : TxState) (outcome : Option Answer) (f : Option Fault) → R s (after_end_tx s tx st outcome f)
+  pub ends_kept : (s : NodeState) (tx : TxId) (st : TxState) (outcome : Option Answer) (f : Option Fault) →
+      R s (after_end_tx s tx st outcome f)
   ends_kept s tx st outcome None = closes_kept s tx (closing_answer st outcome)
   ends_kept s tx st outcome (Some f) = fault_ended_kept s tx f (session_state_of s tx.session)
 
-  pub undecided_with_kept : (s : NodeState) (tx : TxId) (lost : NodeId) (primaries : List NodeId) → R s (after_left_undecided_with s tx lost primaries)
+  pub undecided_with_kept : (s : NodeState) (tx : TxId) (lost : NodeId) (primaries : List NodeId) →
+      R s (after_left_undecided_with s tx lost primaries)
   undecided_with_kept s tx lost primaries =
       either_kept s _ _ (has_node primaries lost) (fails_kept s tx (fault.NodeLost lost)) (kit.nothing s)
 
@@ -162,10 +175,12 @@ module _ (Known : TxId → Type 0) (R : NodeState → NodeState → Type 0) (kit
   leaves_entry_kept s tx lost = on_entry_kept s tx (entry_after_left s lost) (entry_of s tx)
 
   pub keeps_read_kept : (s : NodeState) (tx : TxId) (key : Key) (read : Read) → R s (with_read s tx key read)
-  keeps_read_kept s tx key read = on_entry_kept s tx (λ (e : TxEntry). record e { reads = put key_cmp e.reads key read }) (entry_of s tx)
+  keeps_read_kept s tx key read = on_entry_kept s tx (λ (e : TxEntry). record e { reads = put key_cmp e.reads key read })
+      (entry_of s tx)
 
   pub keeps_write_kept : (s : NodeState) (tx : TxId) (key : Key) (new : Option (List ℕ)) → R s (with_write s tx key new)
-  keeps_write_kept s tx key new = on_entry_kept s tx (λ (e : TxEntry). record e { writes = put key_cmp e.writes key new }) (entry_of s tx)
+  keeps_write_kept s tx key new = on_entry_kept s tx (λ (e : TxEntry). record e { writes = put key_cmp e.writes key new })
+      (entry_of s tx)
 
   pub takes_state_kept : (s : NodeState) (tx : TxId) (st : TxState) → R s (with_tx_state s tx st)
   takes_state_kept s tx st = on_entry_kept s tx (λ (e : TxEntry). record e { state = st }) (entry_of s tx)
@@ -174,7 +189,8 @@ module _ (Known : TxId → Type 0) (R : NodeState → NodeState → Type 0) (kit
   takes_outcome_kept s tx a = on_entry_kept s tx (λ (e : TxEntry). record e { outcome = Some a }) (entry_of s tx)
 
   pub touches_kept : (s : NodeState) (tx : TxId) (key : Key) → R s (with_touched s tx key)
-  touches_kept s tx key = on_entry_kept s tx (λ (e : TxEntry). record e { keys = with_member key_cmp e.keys key }) (entry_of s tx)
+  touches_kept s tx key = on_entry_kept s tx (λ (e : TxEntry). record e { keys = with_member key_cmp e.keys key })
+      (entry_of s tx)
 
   pub asks_lock_kept : (s : NodeState) (tx : TxId) (key : Key) (primary : NodeId) → R s (with_lock_asked s tx key primary)
   asks_lock_kept s tx key primary = on_entry_kept s tx (λ (e : TxEntry). record e {
@@ -194,7 +210,8 @@ module _ (Known : TxId → Type 0) (R : NodeState → NodeState → Type 0) (kit
 
   -- The commit's first phase.
 
-  pub begins_prepare_kept : (s : NodeState) (tx : TxId) (nodes : List NodeId) (shares : List Share) → R s (with_preparing s tx nodes shares)
+  pub begins_prepare_kept : (s : NodeState) (tx : TxId) (nodes : List NodeId) (shares : List Share) →
+      R s (with_preparing s tx nodes shares)
   begins_prepare_kept s tx nodes shares = on_entry_kept s tx (λ (e : TxEntry). record e {
     state = state.Preparing;
     asked = nodes;
@@ -202,12 +219,15 @@ module _ (Known : TxId → Type 0) (R : NodeState → NodeState → Type 0) (kit
     shares = shares;
   }) (entry_of s tx)
 
-  pub prepares_kept : (s : NodeState) (tx : TxId) (top : TopVer) (entry : TxEntry) (nodes : List NodeId) (shares : List Share) → R s (after_send_prepares s tx top entry nodes shares)
+  pub prepares_kept : (s : NodeState) (tx : TxId) (top : TopVer) (entry : TxEntry) (nodes : List NodeId)
+      (shares : List Share) → R s (after_send_prepares s tx top entry nodes shares)
   prepares_kept s tx top entry nodes shares =
       kit.andthen s _ _ (begins_prepare_kept s tx nodes shares)
-      (kit.sent_all (with_preparing s tx nodes shares) (prepare_outs s tx top entry shares nodes) (prepare_tame s tx top entry shares nodes))
+      (kit.sent_all (with_preparing s tx nodes shares) (prepare_outs s tx top entry shares nodes)
+      (prepare_tame s tx top entry shares nodes))
 
-  pub commits_with_kept : (s : NodeState) (tx : TxId) (top : TopVer) (entry : TxEntry) (keys : List Key) → R s (after_commit_of_keys s tx top entry keys)
+  pub commits_with_kept : (s : NodeState) (tx : TxId) (top : TopVer) (entry : TxEntry) (keys : List Key) →
+      R s (after_commit_of_keys s tx top entry keys)
   commits_with_kept s tx top entry [] = decides_kept s tx true
   commits_with_kept s tx top entry (key ∷ keys) =
       prepares_kept s tx top entry (primaries_at s (key ∷ keys)) (shares_of s.installed (key ∷ keys))
@@ -221,7 +241,8 @@ module _ (Known : TxId → Type 0) (R : NodeState → NodeState → Type 0) (kit
 
   -- Accesses.
 
-  pub access_done_kept : (s : NodeState) (tx : TxId) (top : TopVer) (block : Bool) (a : Answer) → R s (after_access_done s tx top block a)
+  pub access_done_kept : (s : NodeState) (tx : TxId) (top : TopVer) (block : Bool) (a : Answer) →
+      R s (after_access_done s tx top block a)
   access_done_kept s tx top true a = answered_kept s tx.session a
   access_done_kept s tx top false a = kit.andthen s _ _ (takes_outcome_kept s tx a) (commits_kept (with_outcome s tx a) tx top)
 
@@ -229,18 +250,24 @@ module _ (Known : TxId → Type 0) (R : NodeState → NodeState → Type 0) (kit
   access_refused_kept s tx true a = answered_kept s tx.session a
   access_refused_kept s tx false a = kit.andthen s _ _ (takes_outcome_kept s tx a) (decides_kept (with_outcome s tx a) tx false)
 
-  pub adds_kept : (s : NodeState) (tx : TxId) (top : TopVer) (block : Bool) (key : Key) (r : Result (List ℕ) Answer) → R s (after_add s tx top block key r)
+  pub adds_kept : (s : NodeState) (tx : TxId) (top : TopVer) (block : Bool) (key : Key) (r : Result (List ℕ) Answer) →
+      R s (after_add s tx top block key r)
   adds_kept s tx top block key (Ok value) =
-      kit.andthen s _ _ (keeps_write_kept s tx key (Some value)) (access_done_kept (with_write s tx key (Some value)) tx top block (answer.Found value))
+      kit.andthen s _ _ (keeps_write_kept s tx key (Some value))
+      (access_done_kept (with_write s tx key (Some value)) tx top block (answer.Found value))
   adds_kept s tx top block key (Err a) = access_refused_kept s tx block a
 
-  pub does_known_kept : (s : NodeState) (tx : TxId) (top : TopVer) (block : Bool) (c : Command) → R s (after_known_access s tx top block c)
-  does_known_kept s tx top block (command.Get key) = access_done_kept s tx top block (answer_of_value (value_at (entry_of s tx) key))
+  pub does_known_kept : (s : NodeState) (tx : TxId) (top : TopVer) (block : Bool) (c : Command) →
+      R s (after_known_access s tx top block c)
+  does_known_kept s tx top block (command.Get key) =
+      access_done_kept s tx top block (answer_of_value (value_at (entry_of s tx) key))
   does_known_kept s tx top block (command.Put key value) =
-      kit.andthen s _ _ (keeps_write_kept s tx key (Some value)) (access_done_kept (with_write s tx key (Some value)) tx top block answer.Done)
+      kit.andthen s _ _ (keeps_write_kept s tx key (Some value))
+      (access_done_kept (with_write s tx key (Some value)) tx top block answer.Done)
   does_known_kept s tx top block (command.Remove key) =
       kit.andthen s _ _ (keeps_write_kept s tx key None) (access_done_kept (with_write s tx key None) tx top block answer.Done)
-  does_known_kept s tx top block (command.Add key amount) = adds_kept s tx top block key (sum_with_value (value_at (entry_of s tx) key) amount)
+  does_known_kept s tx top block (command.Add key amount) =
+      adds_kept s tx top block key (sum_with_value (value_at (entry_of s tx) key) amount)
   does_known_kept s tx top block _ = kit.nothing s
 
   pub near_hit_kept : (s : NodeState) (tx : TxId) (key : Key) (e : NearEntry) → R s (after_near_hit s tx key e)
@@ -248,16 +275,19 @@ module _ (Known : TxId → Type 0) (R : NodeState → NodeState → Type 0) (kit
       kit.andthen s _ _ (with_near_kept s key (near_front (near_of s key) e))
       (keeps_read_kept (with_near s key (near_front (near_of s key) e)) tx key (record { found = Some e.value; ver = e.ver }))
 
-  pub optimistic_read_kept : (s : NodeState) (tx : TxId) (top : TopVer) (block : Bool) (c : Command) (key : Key) (primary : NodeId) (e : Option NearEntry) → R s (after_optimistic_read s tx top block c key primary e)
+  pub optimistic_read_kept : (s : NodeState) (tx : TxId) (top : TopVer) (block : Bool) (c : Command) (key : Key)
+      (primary : NodeId) (e : Option NearEntry) → R s (after_optimistic_read s tx top block c key primary e)
   optimistic_read_kept s tx top block c key primary (Some e) =
       kit.andthen s _ _ (touches_kept s tx key)
       (kit.andthen _ _ _ (near_hit_kept (with_touched s tx key) tx key e)
       (does_known_kept (after_near_hit (with_touched s tx key) tx key e) tx top block c))
   optimistic_read_kept s tx top block c key primary None =
       let near = is_near_kept s key in
-      kit.andthen s _ _ (asks_value_kept s tx key near) (sent_kept (with_value_asked s tx key near) primary (msg.Get tx key near) refl)
+      kit.andthen s _ _ (asks_value_kept s tx key near) (sent_kept (with_value_asked s tx key near) primary
+      (msg.Get tx key near) refl)
 
-  pub optimistic_access_kept : (s : NodeState) (tx : TxId) (top : TopVer) (block : Bool) (c : Command) (key : Key) (primary : NodeId) → R s (after_optimistic_access s tx top block c key primary)
+  pub optimistic_access_kept : (s : NodeState) (tx : TxId) (top : TopVer) (block : Bool) (c : Command) (key : Key)
+      (primary : NodeId) → R s (after_optimistic_access s tx top block c key primary)
   optimistic_access_kept s tx top block (command.Get k) key primary =
       optimistic_read_kept s tx top block (command.Get k) key primary (near_entry (near_of s key) key)
   optimistic_access_kept s tx top block (command.Add k amount) key primary =
@@ -265,12 +295,15 @@ module _ (Known : TxId → Type 0) (R : NodeState → NodeState → Type 0) (kit
   optimistic_access_kept s tx top block c key primary =
       kit.andthen s _ _ (touches_kept s tx key) (does_known_kept (with_touched s tx key) tx top block c)
 
-  pub new_access_kept : (s : NodeState) (tx : TxId) (top : TopVer) (block : Bool) (c : Command) (key : Key) (primary : NodeId) (m : Mode) → R s (after_new_access s tx top block c key primary m)
+  pub new_access_kept : (s : NodeState) (tx : TxId) (top : TopVer) (block : Bool) (c : Command) (key : Key) (primary : NodeId)
+      (m : Mode) → R s (after_new_access s tx top block c key primary m)
   new_access_kept s tx top block c key primary mode.Pessimistic =
-      kit.andthen s _ _ (asks_lock_kept s tx key primary) (sent_kept (with_lock_asked s tx key primary) primary (msg.Lock tx top key) refl)
+      kit.andthen s _ _ (asks_lock_kept s tx key primary) (sent_kept (with_lock_asked s tx key primary) primary
+      (msg.Lock tx top key) refl)
   new_access_kept s tx top block c key primary mode.Optimistic = optimistic_access_kept s tx top block c key primary
 
-  pub new_key_kept : (s : NodeState) (tx : TxId) (top : TopVer) (block : Bool) (c : Command) (key : Key) (primary : NodeId) (e : TxEntry) → R s (after_new_key s tx top block c key primary e)
+  pub new_key_kept : (s : NodeState) (tx : TxId) (top : TopVer) (block : Bool) (c : Command) (key : Key) (primary : NodeId)
+      (e : TxEntry) → R s (after_new_key s tx top block c key primary e)
   new_key_kept s tx top block c key primary e =
       either_kept s _ _ (nat_le most_keys (length e.keys))
       (access_refused_kept s tx block answer.TooManyKeys)
@@ -278,42 +311,50 @@ module _ (Known : TxId → Type 0) (R : NodeState → NodeState → Type 0) (kit
       (new_access_kept s tx top block c key primary e.mode)
       (fails_kept s tx (fault.NodeLost primary)))
 
-  pub accesses_at_kept : (s : NodeState) (tx : TxId) (top : TopVer) (block : Bool) (c : Command) (key : Key) (primary : Option NodeId) (e : TxEntry) → R s (after_access_at s tx top block c key primary e)
+  pub accesses_at_kept : (s : NodeState) (tx : TxId) (top : TopVer) (block : Bool) (c : Command) (key : Key)
+      (primary : Option NodeId) (e : TxEntry) → R s (after_access_at s tx top block c key primary e)
   accesses_at_kept s tx top block c key None e = access_refused_kept s tx block (answer.NoCache key.cache)
   accesses_at_kept s tx top block c key (Some primary) e =
       either_kept s _ _ (has key_cmp e.keys key)
       (does_known_kept s tx top block c)
       (new_key_kept s tx top block c key primary e)
 
-  pub accesses_kept : (s : NodeState) (tx : TxId) (top : TopVer) (block : Bool) (c : Command) (key : Key) (e : Option TxEntry) → R s (after_access s tx top block c key e)
+  pub accesses_kept : (s : NodeState) (tx : TxId) (top : TopVer) (block : Bool) (c : Command) (key : Key)
+      (e : Option TxEntry) → R s (after_access s tx top block c key e)
   accesses_kept s tx top block c key None = kit.nothing s
   accesses_kept s tx top block c key (Some e) = accesses_at_kept s tx top block c key (primary_at s key) e
 
-  pub does_access_kept : (s : NodeState) (tx : TxId) (top : TopVer) (block : Bool) (c : Command) (key : Option Key) → R s (after_run_access s tx top block c key)
+  pub does_access_kept : (s : NodeState) (tx : TxId) (top : TopVer) (block : Bool) (c : Command) (key : Option Key) →
+      R s (after_run_access s tx top block c key)
   does_access_kept s tx top block command.Commit None = commits_kept s tx top
   does_access_kept s tx top block c None = kit.nothing s
   does_access_kept s tx top block c (Some key) = accesses_kept s tx top block c key (entry_of s tx)
 
-  pub does_kept : (s : NodeState) (tx : TxId) (top : TopVer) (block : Bool) (c : Command) → R s (after_run_command s tx top block c)
+  pub does_kept : (s : NodeState) (tx : TxId) (top : TopVer) (block : Bool) (c : Command) →
+      R s (after_run_command s tx top block c)
   does_kept s tx top block c = does_access_kept s tx top block c (access_key c)
 
   -- Answers of the primaries.
 
-  pub keeps_found_kept : (s : NodeState) (tx : TxId) (key : Key) (found : Found) (c : Command) → R s (with_found_read s tx key found c)
+  pub keeps_found_kept : (s : NodeState) (tx : TxId) (key : Key) (found : Found) (c : Command) →
+      R s (with_found_read s tx key found c)
   keeps_found_kept s tx key found (command.Get k) = keeps_read_kept s tx key (read_of found)
   keeps_found_kept s tx key found (command.Add k amount) = keeps_read_kept s tx key (read_of found)
   keeps_found_kept s tx key found _ = kit.nothing s
 
-  pub goes_on_with_kept : (s : NodeState) (tx : TxId) (top : TopVer) (block : Bool) (key : Key) (found : Found) (c : Option Command) → R s (after_resume_with s tx top block key found c)
+  pub goes_on_with_kept : (s : NodeState) (tx : TxId) (top : TopVer) (block : Bool) (key : Key) (found : Found)
+      (c : Option Command) → R s (after_resume_with s tx top block key found c)
   goes_on_with_kept s tx top block key found None = kit.nothing s
   goes_on_with_kept s tx top block key found (Some c) =
       kit.andthen s _ _ (keeps_found_kept s tx key found c) (does_known_kept (with_found_read s tx key found c) tx top block c)
 
-  pub goes_on_at_kept : (s : NodeState) (tx : TxId) (key : Key) (found : Found) (top : Option TopVer) (d : Option SessionState) → R s (after_resume s tx key found top d)
+  pub goes_on_at_kept : (s : NodeState) (tx : TxId) (key : Key) (found : Found) (top : Option TopVer)
+      (d : Option SessionState) → R s (after_resume s tx key found top d)
   goes_on_at_kept s tx key found (Some top) (Some d) = goes_on_with_kept s tx top d.block key found d.pending
   goes_on_at_kept s tx key found _ _ = kit.nothing s
 
-  pub lock_ok_in_kept : (s : NodeState) (tx : TxId) (key : Key) (found : Found) (e : TxEntry) (st : TxState) → R s (after_lock_ok_in s tx key found e st)
+  pub lock_ok_in_kept : (s : NodeState) (tx : TxId) (key : Key) (found : Found) (e : TxEntry) (st : TxState) →
+      R s (after_lock_ok_in s tx key found e st)
   lock_ok_in_kept s tx key found e state.Waiting =
       either_kept s _ _ (is_pending_access key (session_state_of s tx.session))
       (kit.andthen s _ _ (takes_state_kept s tx state.Active)
@@ -321,7 +362,8 @@ module _ (Known : TxId → Type 0) (R : NodeState → NodeState → Type 0) (kit
       (kit.nothing s)
   lock_ok_in_kept s tx key found e _ = kit.nothing s
 
-  pub lock_ok_by_kept : (s : NodeState) (tx : TxId) (key : Key) (found : Found) (e : Option TxEntry) → R s (after_lock_ok_of s tx key found e)
+  pub lock_ok_by_kept : (s : NodeState) (tx : TxId) (key : Key) (found : Found) (e : Option TxEntry) →
+      R s (after_lock_ok_of s tx key found e)
   lock_ok_by_kept s tx key found None = kit.nothing s
   lock_ok_by_kept s tx key found (Some e) = lock_ok_in_kept s tx key found e e.state
 
@@ -333,19 +375,23 @@ module _ (Known : TxId → Type 0) (R : NodeState → NodeState → Type 0) (kit
       with_near_kept s key (near_put (near_size s key) (near_of s key) (record { key = key; value = value; ver = ver }))
   near_kept_kept s key _ _ = kit.nothing s
 
-  pub get_ok_for_kept : (s : NodeState) (tx : TxId) (key : Key) (found : Found) (e : TxEntry) (getting : Getting) → R s (after_get_ok_for s tx key found e getting)
+  pub get_ok_for_kept : (s : NodeState) (tx : TxId) (key : Key) (found : Found) (e : TxEntry) (getting : Getting) →
+      R s (after_get_ok_for s tx key found e getting)
   get_ok_for_kept s tx key found e getting =
       either_kept s _ _ (same_key getting.key key)
       (kit.andthen s _ _ (got_value_kept s tx)
       (kit.andthen _ _ _ (near_kept_kept (without_getting s tx) key getting.near found)
-      (goes_on_at_kept (after_keep_near (without_getting s tx) key getting.near found) tx key found e.top (session_state_of s tx.session))))
+      (goes_on_at_kept (after_keep_near (without_getting s tx) key getting.near found) tx key found e.top
+      (session_state_of s tx.session))))
       (kit.nothing s)
 
-  pub get_ok_in_kept : (s : NodeState) (tx : TxId) (key : Key) (found : Found) (e : TxEntry) (getting : Option Getting) → R s (after_get_ok_in s tx key found e getting)
+  pub get_ok_in_kept : (s : NodeState) (tx : TxId) (key : Key) (found : Found) (e : TxEntry) (getting : Option Getting) →
+      R s (after_get_ok_in s tx key found e getting)
   get_ok_in_kept s tx key found e None = kit.nothing s
   get_ok_in_kept s tx key found e (Some getting) = get_ok_for_kept s tx key found e getting
 
-  pub get_ok_by_kept : (s : NodeState) (tx : TxId) (key : Key) (found : Found) (e : Option TxEntry) → R s (after_get_ok_of s tx key found e)
+  pub get_ok_by_kept : (s : NodeState) (tx : TxId) (key : Key) (found : Found) (e : Option TxEntry) →
+      R s (after_get_ok_of s tx key found e)
   get_ok_by_kept s tx key found None = kit.nothing s
   get_ok_by_kept s tx key found (Some e) = get_ok_in_kept s tx key found e e.getting
 
@@ -355,7 +401,8 @@ module _ (Known : TxId → Type 0) (R : NodeState → NodeState → Type 0) (kit
   -- Prepared, PrepareFail, Finished, BackupFinished.
 
   pub no_longer_kept : (s : NodeState) (tx : TxId) (from : NodeId) → R s (without_awaited s tx from)
-  no_longer_kept s tx from = on_entry_kept s tx (λ (e : TxEntry). record e { awaited = without_member node_cmp e.awaited from }) (entry_of s tx)
+  no_longer_kept s tx from =
+      on_entry_kept s tx (λ (e : TxEntry). record e { awaited = without_member node_cmp e.awaited from }) (entry_of s tx)
 
   pub prepared_in_kept : (s : NodeState) (from : NodeId) (tx : TxId) (st : TxState) → R s (after_prepared_in s from tx st)
   prepared_in_kept s from tx state.Preparing = no_longer_kept s tx from
@@ -379,18 +426,21 @@ module _ (Known : TxId → Type 0) (R : NodeState → NodeState → Type 0) (kit
   pub near_finished_kept : (s : NodeState) (from : NodeId) (tx : TxId) → R s (after_finished_at_starter s from tx)
   near_finished_kept s from tx = finished_in_kept s from tx (tx_state_of s tx)
 
-  pub near_backup_finished_kept : (s : NodeState) (from : NodeId) (tx : TxId) (primary : NodeId) → R s (after_backup_finished_at_starter s from tx primary)
+  pub near_backup_finished_kept : (s : NodeState) (from : NodeId) (tx : TxId) (primary : NodeId) →
+      R s (after_backup_finished_at_starter s from tx primary)
   near_backup_finished_kept s from tx primary = on_entry_kept s tx (λ (e : TxEntry). record e {
     backups = without_member share_cmp e.backups (record { holder = from; primary = primary });
   }) (entry_of s tx)
 
-  pub near_update_row_kept : (s : NodeState) (from : NodeId) (tx : TxId) (key : Key) (new : Option (List ℕ)) (ver : CacheVersion) → R s (after_near_update s from tx key new ver)
+  pub near_update_row_kept : (s : NodeState) (from : NodeId) (tx : TxId) (key : Key) (new : Option (List ℕ))
+      (ver : CacheVersion) → R s (after_near_update s from tx key new ver)
   near_update_row_kept s from tx key new ver =
       kit.andthen s _ _ (with_near_kept s key (near_updated (near_of s key) key new ver))
       (sent_kept (with_near s key (near_updated (near_of s key) key new ver)) from (msg.NearDone tx key) refl)
 
   pub fixes_version_kept : (s : NodeState) (tx : TxId) (top : TopVer) → R s (with_version s tx top)
-  fixes_version_kept s tx top = on_entry_kept s tx (λ (e : TxEntry). record e { top = Some top; state = state.Active }) (entry_of s tx)
+  fixes_version_kept s tx top = on_entry_kept s tx (λ (e : TxEntry). record e { top = Some top; state = state.Active })
+      (entry_of s tx)
 
   pub starts_kept : (s : NodeState) (tx : TxId) (block : Bool) (c : Command) → R s (after_start s tx block c)
   starts_kept s tx block c =
@@ -398,7 +448,8 @@ module _ (Known : TxId → Type 0) (R : NodeState → NodeState → Type 0) (kit
       (kit.andthen _ _ _ (kit.noting (with_version s tx s.seen) (note.Start tx s.seen) refl)
       (does_kept (with_note (with_version s tx s.seen) (note.Start tx s.seen)) tx s.seen block c))
 
-  pub start_command_kept : (s : NodeState) (tx : TxId) (block : Bool) (c : Option Command) → R s (after_start_command s tx block c)
+  pub start_command_kept : (s : NodeState) (tx : TxId) (block : Bool) (c : Option Command) →
+      R s (after_start_command s tx block c)
   start_command_kept s tx block None = kit.nothing s
   start_command_kept s tx block (Some c) = either_kept s _ _ (takes_version c) (starts_kept s tx block c) (kit.nothing s)
 
@@ -421,78 +472,102 @@ module _ (Known : TxId → Type 0) (R : NodeState → NodeState → Type 0) (kit
   pub start_each_kept : (s : NodeState) (sessions : List ℕ) → R s (after_start_each s sessions)
   start_each_kept s [] = kit.nothing s
   start_each_kept s (session ∷ more) =
-      kit.andthen s _ _ (start_session_state_kept s (session_state_of s session)) (start_each_kept (after_start_session s (session_state_of s session)) more)
+      kit.andthen s _ _ (start_session_state_kept s (session_state_of s session))
+      (start_each_kept (after_start_session s (session_state_of s session)) more)
 
   pub starts_all_kept : (s : NodeState) → R s (after_start_all s)
   starts_all_kept s = either_kept s _ _ (is_open s s.opened) (start_each_kept s (sessions_of s)) (kit.nothing s)
 
-  pub opens_kept : (s : NodeState) (tx : TxId) (m : Mode) (deadline : Option ℕ) (block : Bool) → R s (after_open_tx s tx m deadline block)
+  pub opens_kept : (s : NodeState) (tx : TxId) (m : Mode) (deadline : Option ℕ) (block : Bool) →
+      R s (after_open_tx s tx m deadline block)
   opens_kept s tx m deadline block =
       let known = with_entry s tx (new_entry m deadline) in
       kit.andthen s known _ (with_entry_kept s tx (new_entry m deadline))
-      (on_session_state_kept known tx.session (λ (d : SessionState). record d { tx = Some tx; block = block; skipping = false; started = tx.number })
+      (on_session_state_kept known tx.session (λ (d : SessionState). record d {
+        tx = Some tx;
+        block = block;
+        skipping = false;
+        started = tx.number;
+      })
       (session_state_of known tx.session))
 
-  pub begins_kept : (s : NodeState) (session started : ℕ) (m : Mode) (timeout : ℕ) (tx : Option TxId) → R s (after_begin s session started m timeout tx)
+  pub begins_kept : (s : NodeState) (session started : ℕ) (m : Mode) (timeout : ℕ) (tx : Option TxId) →
+      R s (after_begin s session started m timeout tx)
   begins_kept s session started m timeout (Some tx) = answered_kept s session answer.TransactionOpen
   begins_kept s session started m timeout None =
       kit.andthen s _ _ (opens_kept s (next_tx s session started) m (deadline_at s.now timeout) true)
       (answered_kept (after_open_tx s (next_tx s session started) m (deadline_at s.now timeout) true) session answer.Done)
 
-  pub told_if_ended_kept : (s : NodeState) (tx : TxId) (f : Fault) (c : Command) (st : TxState) → R s (after_tell_if_ended s tx f c st)
+  pub told_if_ended_kept : (s : NodeState) (tx : TxId) (f : Fault) (c : Command) (st : TxState) →
+      R s (after_tell_if_ended s tx f c st)
   told_if_ended_kept s tx f c state.Ended = tells_kept s tx f c
   told_if_ended_kept s tx f c _ = kit.nothing s
 
-  pub does_if_started_kept : (s : NodeState) (tx : TxId) (block : Bool) (c : Command) (top : Option TopVer) → R s (after_run_if_started s tx block c top)
+  pub does_if_started_kept : (s : NodeState) (tx : TxId) (block : Bool) (c : Command) (top : Option TopVer) →
+      R s (after_run_if_started s tx block c top)
   does_if_started_kept s tx block c None = kit.nothing s
   does_if_started_kept s tx block c (Some top) = does_kept s tx top block c
 
-  pub in_sound_kept : (s : NodeState) (tx : TxId) (block : Bool) (c : Command) (top : Option TopVer) → R s (after_command_without_fault s tx block c top)
+  pub in_sound_kept : (s : NodeState) (tx : TxId) (block : Bool) (c : Command) (top : Option TopVer) →
+      R s (after_command_without_fault s tx block c top)
   in_sound_kept s tx block command.Rollback top = decides_kept s tx false
   in_sound_kept s tx block command.Close top = decides_kept s tx false
   in_sound_kept s tx block c top = does_if_started_kept s tx block c top
 
-  pub in_entry_kept : (s : NodeState) (tx : TxId) (block : Bool) (c : Command) (e : TxEntry) (f : Option Fault) → R s (after_command_of_entry s tx block c e f)
+  pub in_entry_kept : (s : NodeState) (tx : TxId) (block : Bool) (c : Command) (e : TxEntry) (f : Option Fault) →
+      R s (after_command_of_entry s tx block c e f)
   in_entry_kept s tx block c e (Some f) = told_if_ended_kept s tx f c e.state
   in_entry_kept s tx block c e None = in_sound_kept s tx block c e.top
 
-  pub in_transaction_kept : (s : NodeState) (tx : TxId) (block : Bool) (c : Command) (e : Option TxEntry) → R s (after_command_in_transaction s tx block c e)
+  pub in_transaction_kept : (s : NodeState) (tx : TxId) (block : Bool) (c : Command) (e : Option TxEntry) →
+      R s (after_command_in_transaction s tx block c e)
   in_transaction_kept s tx block c None = kit.nothing s
   in_transaction_kept s tx block c (Some e) = in_entry_kept s tx block c e e.fault
 
-  pub access_row_kept : (s : NodeState) (session started : ℕ) (block : Bool) (c : Command) (tx : Option TxId) (skipping : Bool) → R s (after_access_command s session started block c tx skipping)
+  pub access_row_kept : (s : NodeState) (session started : ℕ) (block : Bool) (c : Command) (tx : Option TxId)
+      (skipping : Bool) → R s (after_access_command s session started block c tx skipping)
   access_row_kept s session started block c (Some tx) skipping = in_transaction_kept s tx block c (entry_of s tx)
   access_row_kept s session started block c None true = answered_kept s session answer.Skipped
   access_row_kept s session started block c None false = opens_kept s (next_tx s session started) mode.Pessimistic None false
 
   pub skips_end_kept : (s : NodeState) (session : ℕ) → R s (after_skip_end s session)
-  skips_end_kept s session = on_session_state_kept s session (λ (d : SessionState). record d { skipping = false; ready = Some answer.Skipped }) (session_state_of s session)
+  skips_end_kept s session =
+      on_session_state_kept s session (λ (d : SessionState). record d { skipping = false; ready = Some answer.Skipped })
+      (session_state_of s session)
 
-  pub end_row_kept : (s : NodeState) (session : ℕ) (block : Bool) (c : Command) (tx : Option TxId) (skipping : Bool) → R s (after_end_command s session block c tx skipping)
+  pub end_row_kept : (s : NodeState) (session : ℕ) (block : Bool) (c : Command) (tx : Option TxId) (skipping : Bool) →
+      R s (after_end_command s session block c tx skipping)
   end_row_kept s session block c (Some tx) skipping = in_transaction_kept s tx block c (entry_of s tx)
   end_row_kept s session block c None true = skips_end_kept s session
   end_row_kept s session block c None false = answered_kept s session answer.NoTransaction
 
   pub sleeps_kept : (s : NodeState) (session n : ℕ) → R s (after_sleep s session n)
-  sleeps_kept s session n = on_session_state_kept s session (λ (d : SessionState). record d { wake = Some (moment_after s.now n) }) (session_state_of s session)
+  sleeps_kept s session n =
+      on_session_state_kept s session (λ (d : SessionState). record d { wake = Some (moment_after s.now n) })
+      (session_state_of s session)
 
-  pub command_row_kept : (s : NodeState) (session started : ℕ) (block skipping : Bool) (tx : Option TxId) (c : Command) → R s (after_command s session started block skipping tx c)
+  pub command_row_kept : (s : NodeState) (session started : ℕ) (block skipping : Bool) (tx : Option TxId) (c : Command) →
+      R s (after_command s session started block skipping tx c)
   command_row_kept s session started block skipping tx (command.Begin m timeout) = begins_kept s session started m timeout tx
   command_row_kept s session started block skipping tx (command.Sleep n) = sleeps_kept s session n
   command_row_kept s session started block skipping tx command.Commit = end_row_kept s session block command.Commit tx skipping
-  command_row_kept s session started block skipping tx command.Rollback = end_row_kept s session block command.Rollback tx skipping
+  command_row_kept s session started block skipping tx command.Rollback =
+      end_row_kept s session block command.Rollback tx skipping
   command_row_kept s session started block skipping tx command.Close = end_row_kept s session block command.Close tx skipping
   command_row_kept s session started block skipping tx c = access_row_kept s session started block c tx skipping
 
   pub pends_kept : (s : NodeState) (session : ℕ) (c : Command) → R s (with_pending s session c)
-  pends_kept s session c = on_session_state_kept s session (λ (d : SessionState). record d { pending = Some c }) (session_state_of s session)
+  pends_kept s session c = on_session_state_kept s session (λ (d : SessionState). record d { pending = Some c })
+      (session_state_of s session)
 
-  pub takes_kept : (s : NodeState) (session : ℕ) (d : SessionState) (c : Option Command) → R s (after_take_command s session d c)
+  pub takes_kept : (s : NodeState) (session : ℕ) (d : SessionState) (c : Option Command) →
+      R s (after_take_command s session d c)
   takes_kept s session d None = kit.nothing s
   takes_kept s session d (Some c) =
       kit.andthen s _ _ (pends_kept s session c)
       (kit.andthen _ _ _ (kit.noting (with_pending s session c) (note.Call session c) refl)
-      (command_row_kept (with_note (with_pending s session c) (note.Call session c)) session d.started d.block d.skipping d.tx c))
+      (command_row_kept (with_note (with_pending s session c) (note.Call session c)) session d.started d.block d.skipping d.tx
+      c))
 
   pub takes_at_kept : (s : NodeState) (session : ℕ) (d : Option SessionState) → R s (after_call_of s session d)
   takes_at_kept s session None = kit.nothing s
@@ -507,7 +582,8 @@ module _ (Known : TxId → Type 0) (R : NodeState → NodeState → Type 0) (kit
   hands_kept s session None = kit.nothing s
   hands_kept s session (Some a) =
       kit.andthen s _ _ (on_session_state_kept s session (session_state_after_answer a) (session_state_of s session))
-      (kit.noting (on_session_state s session (session_state_after_answer a) (session_state_of s session)) (note.Answer session a) refl)
+      (kit.noting (on_session_state s session (session_state_after_answer a) (session_state_of s session))
+      (note.Answer session a) refl)
 
   pub hands_at_kept : (s : NodeState) (session : ℕ) (d : Option SessionState) → R s (after_answer_of s session d)
   hands_at_kept s session None = kit.nothing s
@@ -516,8 +592,10 @@ module _ (Known : TxId → Type 0) (R : NodeState → NodeState → Type 0) (kit
   pub answer_row_kept : (s : NodeState) (session : ℕ) → R s (after_answer s session)
   answer_row_kept s session = hands_at_kept s session (session_state_of s session)
 
-  pub asks_kept : (s : NodeState) (tx : TxId) (round : ℕ) (known : List TxId) (nodes : List NodeId) → R s (after_ask s tx round known nodes)
-  asks_kept s tx round known nodes = kit.sent_all s (outs_to nodes (msg.Edges tx round known)) (to_tame nodes (msg.Edges tx round known) refl)
+  pub asks_kept : (s : NodeState) (tx : TxId) (round : ℕ) (known : List TxId) (nodes : List NodeId) →
+      R s (after_ask s tx round known nodes)
+  asks_kept s tx round known nodes = kit.sent_all s (outs_to nodes (msg.Edges tx round known))
+      (to_tame nodes (msg.Edges tx round known) refl)
 
   pub searching_kept : (s : NodeState) (tx : TxId) (search : Search) → R s (with_search s tx search)
   searching_kept s tx search =
@@ -527,7 +605,8 @@ module _ (Known : TxId → Type 0) (R : NodeState → NodeState → Type 0) (kit
   begins_search_kept s tx =
       let members : List NodeId = node_set [] s.members in
       let here : NodeState = with_search s tx (new_search members tx) in
-      kit.andthen s here (after_ask here tx 1 (tx ∷ []) members) (searching_kept s tx (new_search members tx)) (asks_kept here tx 1 (tx ∷ []) members)
+      kit.andthen s here (after_ask here tx 1 (tx ∷ []) members) (searching_kept s tx (new_search members tx))
+      (asks_kept here tx 1 (tx ∷ []) members)
 
   pub expire_in_kept : (s : NodeState) (tx : TxId) (now : TxState) → R s (after_expire_in s tx now)
   expire_in_kept s tx state.Waiting = begins_search_kept s tx
@@ -542,43 +621,55 @@ module _ (Known : TxId → Type 0) (R : NodeState → NodeState → Type 0) (kit
   pub expire_row_kept : (s : NodeState) (tx : TxId) → R s (after_expire s tx)
   expire_row_kept s tx =
       let here : NodeState = with_note s (note.Expire tx) in
-      kit.andthen s here (after_expire_in here tx (tx_state_of s tx)) (kit.noting s (note.Expire tx) refl) (expire_in_kept here tx (tx_state_of s tx))
+      kit.andthen s here (after_expire_in here tx (tx_state_of s tx)) (kit.noting s (note.Expire tx) refl)
+      (expire_in_kept here tx (tx_state_of s tx))
 
   pub next_round_kept : (s : NodeState) (tx : TxId) (search : Search) → R s (after_next_round s tx search)
   next_round_kept s tx search =
       let here : NodeState = with_search s tx search in
-      kit.andthen s here (after_ask here tx search.round search.known search.awaited) (searching_kept s tx search) (asks_kept here tx search.round search.known search.awaited)
+      kit.andthen s here (after_ask here tx search.round search.known search.awaited) (searching_kept s tx search)
+      (asks_kept here tx search.round search.known search.awaited)
 
-  pub search_clear_kept : (s : NodeState) (tx : TxId) (search : Search) (named : List TxId) → R s (after_search_clear s tx search named)
+  pub search_clear_kept : (s : NodeState) (tx : TxId) (search : Search) (named : List TxId) →
+      R s (after_search_clear s tx search named)
   search_clear_kept s tx search named =
       let here : NodeState = with_note s (note.Searched tx []) in
-      either_kept s (after_fail here tx fault.Timeout) (after_next_round s tx (search_of_next_round s search named)) (nat_eq (length named) (length search.known))
-      (kit.andthen s here (after_fail here tx fault.Timeout) (kit.noting s (note.Searched tx []) refl) (fails_kept here tx fault.Timeout))
+      either_kept s (after_fail here tx fault.Timeout) (after_next_round s tx (search_of_next_round s search named))
+      (nat_eq (length named) (length search.known))
+      (kit.andthen s here (after_fail here tx fault.Timeout) (kit.noting s (note.Searched tx []) refl)
+      (fails_kept here tx fault.Timeout))
       (next_round_kept s tx (search_of_next_round s search named))
 
-  pub searched_kept : (s : NodeState) (tx : TxId) (search : Search) (found : Option (List Edge)) → R s (after_search s tx search found)
+  pub searched_kept : (s : NodeState) (tx : TxId) (search : Search) (found : Option (List Edge)) →
+      R s (after_search s tx search found)
   searched_kept s tx search (Some cycle) =
       let here : NodeState = with_note s (note.Searched tx cycle) in
-      kit.andthen s here (after_fail here tx fault.Deadlock) (kit.noting s (note.Searched tx cycle) refl) (fails_kept here tx fault.Deadlock)
+      kit.andthen s here (after_fail here tx fault.Deadlock) (kit.noting s (note.Searched tx cycle) refl)
+      (fails_kept here tx fault.Deadlock)
   searched_kept s tx search None = search_clear_kept s tx search (with_named search.known search.edges)
 
-  pub round_over_kept : (s : NodeState) (tx : TxId) (search : Search) (awaited : List NodeId) → R s (after_round s tx search awaited)
+  pub round_over_kept : (s : NodeState) (tx : TxId) (search : Search) (awaited : List NodeId) →
+      R s (after_round s tx search awaited)
   round_over_kept s tx search [] = searched_kept s tx search (cycle_through tx search.edges)
   round_over_kept s tx search (who ∷ more) = searching_kept s tx search
 
   pub answer_gathered_kept : (s : NodeState) (tx : TxId) (search : Search) → R s (after_gather s tx search)
   answer_gathered_kept s tx search = round_over_kept s tx search search.awaited
 
-  pub edges_ok_for_kept : (s : NodeState) (from : NodeId) (tx : TxId) (round act : ℕ) (waits : List Wait) (search : Search) → R s (after_edges_ok_for s from tx round act waits search)
+  pub edges_ok_for_kept : (s : NodeState) (from : NodeId) (tx : TxId) (round act : ℕ) (waits : List Wait) (search : Search) →
+      R s (after_edges_ok_for s from tx round act waits search)
   edges_ok_for_kept s from tx round act waits search =
-      either_kept s (after_gather s tx (search_with_answer search from act waits)) s (nat_eq search.round round && has node_cmp search.awaited from)
+      either_kept s (after_gather s tx (search_with_answer search from act waits)) s (nat_eq search.round round
+      && has node_cmp search.awaited from)
       (answer_gathered_kept s tx (search_with_answer search from act waits)) (kit.nothing s)
 
-  pub edges_ok_in_kept : (s : NodeState) (from : NodeId) (tx : TxId) (round act : ℕ) (waits : List Wait) (found : Option Search) → R s (after_edges_ok_in s from tx round act waits found)
+  pub edges_ok_in_kept : (s : NodeState) (from : NodeId) (tx : TxId) (round act : ℕ) (waits : List Wait)
+      (found : Option Search) → R s (after_edges_ok_in s from tx round act waits found)
   edges_ok_in_kept s from tx round act waits None = kit.nothing s
   edges_ok_in_kept s from tx round act waits (Some search) = edges_ok_for_kept s from tx round act waits search
 
-  pub edges_ok_row_kept : (s : NodeState) (from : NodeId) (tx : TxId) (round act : ℕ) (waits : List Wait) → R s (after_edges_ok s from tx round act waits)
+  pub edges_ok_row_kept : (s : NodeState) (from : NodeId) (tx : TxId) (round act : ℕ) (waits : List Wait) →
+      R s (after_edges_ok s from tx round act waits)
   edges_ok_row_kept s from tx round act waits = edges_ok_in_kept s from tx round act waits (search_of s tx)
 
   -- a search is cut by the loss of a node whose answer it awaits
@@ -588,7 +679,8 @@ module _ (Known : TxId → Type 0) (R : NodeState → NodeState → Type 0) (kit
   searches_left_kept s who (tx ∷ txs) =
       let here : NodeState = if is_cut who (search_of s tx) then after_fail s tx (fault.Cut who) else s in
       kit.andthen s here (after_left_at_each_search here who txs)
-      (either_kept s (after_fail s tx (fault.Cut who)) s (is_cut who (search_of s tx)) (fails_kept s tx (fault.Cut who)) (kit.nothing s))
+      (either_kept s (after_fail s tx (fault.Cut who)) s (is_cut who (search_of s tx)) (fails_kept s tx (fault.Cut who))
+      (kit.nothing s))
       (searches_left_kept here who txs)
 
   pub search_left_kept : (s : NodeState) (who : NodeId) → R s (after_left_at_searches s who)
@@ -604,7 +696,8 @@ module _ (Known : TxId → Type 0) (R : NodeState → NodeState → Type 0) (kit
   phase_over_kept s tx e state.RollingBack = ends_kept s tx e.state e.outcome e.fault
   phase_over_kept s tx e state.Ended = kit.nothing s
 
-  pub near_on_lists_kept : (s : NodeState) (tx : TxId) (e : TxEntry) (awaited : List NodeId) (backups : List Share) → R s (after_advance_tx_in s tx e awaited backups)
+  pub near_on_lists_kept : (s : NodeState) (tx : TxId) (e : TxEntry) (awaited : List NodeId) (backups : List Share) →
+      R s (after_advance_tx_in s tx e awaited backups)
   near_on_lists_kept s tx e [] [] = phase_over_kept s tx e e.state
   near_on_lists_kept s tx e [] (b ∷ bs) = kit.nothing s
   near_on_lists_kept s tx e (a ∷ more) backups = kit.nothing s

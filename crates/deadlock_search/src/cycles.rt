@@ -32,8 +32,12 @@ fn follow(
     entered: &mut Set<TxId>,
     edge: &Edge,
 ) -> Mem<Option<List<Edge>>>
-    ensures way { IfOk result (λ way. way ≡ (way_along (λ seen holder. way_down depth tx.now edges.now seen holder) tx.now edge.now entered.old).way) }
-    ensures entered { OnOk result (entered.new ≡ (way_along (λ seen holder. way_down depth tx.now edges.now seen holder) tx.now edge.now entered.old).entered) }
+    ensures way { IfOk result
+        (λ way. way ≡ (way_along (λ seen holder. way_down depth tx.now edges.now seen holder) tx.now edge.now
+        entered.old).way) }
+    ensures entered { OnOk result
+        (entered.new ≡ (way_along (λ seen holder. way_down depth tx.now edges.now seen holder) tx.now edge.now
+        entered.old).entered) }
 {
     let holder = edge.wait.holder;
     if holder == *tx {
@@ -57,8 +61,12 @@ fn try_edges(
     entered: &mut Set<TxId>,
     at: &TxId,
 ) -> Mem<Option<List<Edge>>>
-    ensures way { IfOk result (λ way. way ≡ (way_through_each (λ seen holder. way_down depth tx.now edges.now seen holder) tx.now at.now entered.old edges.now).way) }
-    ensures entered { OnOk result (entered.new ≡ (way_through_each (λ seen holder. way_down depth tx.now edges.now seen holder) tx.now at.now entered.old edges.now).entered) }
+    ensures way { IfOk result
+        (λ way. way ≡ (way_through_each (λ seen holder. way_down depth tx.now edges.now seen holder) tx.now at.now entered.old
+        edges.now).way) }
+    ensures entered { OnOk result
+        (entered.new ≡ (way_through_each (λ seen holder. way_down depth tx.now edges.now seen holder) tx.now at.now
+        entered.old edges.now).entered) }
 {
     for edge in edges {
         if edge.wait.waiter == *at {

@@ -10,5 +10,6 @@ use Rattle.ordered_table.specs.Entries.{put}
 use Rattle.ordered_table.specs.Places.{IsAscending}
 
 -- one entry more of the copy
-pub copied_more : (es : List (TopVer × ℕ)) (i : ℕ) (d : TopVer × ℕ) → IsAscending top_cmp es → i < length es → put top_cmp (take i es) (get_or es i d).0 (get_or es i d).1 ≡ take (i + 1) es
+pub copied_more : (es : List (TopVer × ℕ)) (i : ℕ) (d : TopVer × ℕ) → IsAscending top_cmp es → i < length es →
+    put top_cmp (take i es) (get_or es i d).0 (get_or es i d).1 ≡ take (i + 1) es
 copied_more = copies.copied_more top_cmp top_total

@@ -11,9 +11,11 @@ use Rattle.entry_candidates.specs.Owning.{is_owned_by, without_waiter, without_w
 turned : (a b : TxId) → same_tx a b ≡ false → same_tx b a ≡ false
 turned a b apart = grind (arith, nat_tests)
 
-front_stays : (queue : List TxId) (tx : TxId) → is_owned_by tx (slice_get queue 0) ≡ false → without_waiter tx queue ≡ queue_without tx queue
+front_stays : (queue : List TxId) (tx : TxId) → is_owned_by tx (slice_get queue 0) ≡ false →
+    without_waiter tx queue ≡ queue_without tx queue
 front_stays [] tx other = refl
 front_stays (owner ∷ waiters) tx other = rw (turned tx owner other) refl
 
-pub other_left : (queues : Queues) (tx : TxId) (key : Key) → is_owned_by tx (owner_in queues key) ≡ false → without_waiter_in queues tx key ≡ queues_without queues tx key
+pub other_left : (queues : Queues) (tx : TxId) (key : Key) → is_owned_by tx (owner_in queues key) ≡ false →
+    without_waiter_in queues tx key ≡ queues_without queues tx key
 other_left queues tx key other = ap (with_queue_in queues key) (front_stays (queue_in queues key) tx other)

@@ -35,7 +35,8 @@ module _ {K V : Type 0} (cmp : K → K → Ordering) where
     each_found (e ∷ es) up = (rw (tied_itself o e.0), found_behind e es es up.0 (each_found es up.1))
 
     -- one entry more of a copy that goes by the keys
-    pub read_copied : (es : List (K × V)) (ks : List K) (i : ℕ) (k : K) (d : V) → IsAscending cmp es → ks ≡ keys_of es → i < length ks → k ≡ get_or ks i k
+    pub read_copied : (es : List (K × V)) (ks : List K) (i : ℕ) (k : K) (d : V) → IsAscending cmp es → ks ≡ keys_of es →
+        i < length ks → k ≡ get_or ks i k
         → put cmp (take i es) k (unwrap_or (at cmp es k) d) ≡ take (i + 1) es
     read_copied es ks i k d up keys within here =
         let entry = in_order cmp o es i k up (rw keys at within) (rw keys at here) in
@@ -48,16 +49,19 @@ module _ {K V : Type 0} (cmp : K → K → Ordering) where
         rw entry.1 (rw at_place at (copied_more cmp o es i (k, d) up inside))
 
 -- at the end of the keys all of them have been read
-pub all_read : {K X : Type 0} (f : K → X) (done : List X) (ks : List K) (i : ℕ) → length ks ≤ i → done ++ map f (drop i ks) ≡ map f ks → done ≡ map f ks
+pub all_read : {K X : Type 0} (f : K → X) (done : List X) (ks : List K) (i : ℕ) → length ks ≤ i →
+    done ++ map f (drop i ks) ≡ map f ks → done ≡ map f ks
 all_read f done ks i past so_far = sym (append-nil done) ∙ ap (λ r. done ++ map f r) (sym (drop_all i ks past)) ∙ so_far
 
 module _ {K V X : Type 0} (cmp : K → K → Ordering) (d : V) (f : K → V → X) where
   -- what is made of each entry, by its key
-  pub map_read : (whole es : List (K × V)) → EachFound cmp whole es → map (λ (k : K). f k (unwrap_or (at cmp whole k) d)) (keys_of es) ≡ map (λ (e : K × V). f e.0 e.1) es
+  pub map_read : (whole es : List (K × V)) → EachFound cmp whole es → map (λ (k : K). f k (unwrap_or (at cmp whole k) d))
+      (keys_of es) ≡ map (λ (e : K × V). f e.0 e.1) es
   map_read whole [] found = refl
   map_read whole (e ∷ es) found = rw (found.0, map_read whole es found.1)
 
 module _ {K V X : Type 0} (cmp : K → K → Ordering) (d : V) (f : K → V → List X) where
-  pub flat_map_read : (whole es : List (K × V)) → EachFound cmp whole es → flat_map (λ (e : K × V). f e.0 (unwrap_or (at cmp whole e.0) d)) es ≡ flat_map (λ (e : K × V). f e.0 e.1) es
+  pub flat_map_read : (whole es : List (K × V)) → EachFound cmp whole es →
+      flat_map (λ (e : K × V). f e.0 (unwrap_or (at cmp whole e.0) d)) es ≡ flat_map (λ (e : K × V). f e.0 e.1) es
   flat_map_read whole [] found = refl
   flat_map_read whole (e ∷ es) found = rw (found.0, flat_map_read whole es found.1)

@@ -32,7 +32,8 @@ module _ {T : Type 0} {same : T → T → Bool} (tells : Tells same) where
   gone t (v ∷ q) =
       elim (tells.decide v t) [
         | inl is ↦ subst (λ (x : T). among t (left t (x ∷ q)) ≡ false) (sym is) (ap (among t) (left_same t q) ∙ gone t q)
-        | inr other ↦ ap (among t) (left_other t v q other) ∙ ap (λ b. b || among t (left t q)) (tells.apart t v (λ h. other (sym h))) ∙ gone t q
+        | inr other ↦ ap (among t) (left_other t v q other)
+            ∙ ap (λ b. b || among t (left t q)) (tells.apart t v (λ h. other (sym h))) ∙ gone t q
       ]
 
   -- and the others stay
@@ -40,7 +41,8 @@ module _ {T : Type 0} {same : T → T → Bool} (tells : Tells same) where
   others_stay t u [] other = refl
   others_stay t u (v ∷ q) other =
       elim (tells.decide v t) [
-        | inl is ↦ subst (λ (x : T). among u (left t (x ∷ q)) ≡ among u (x ∷ q)) (sym is) (ap (among u) (left_same t q) ∙ others_stay t u q other ∙ ap (λ b. b || among u q) (sym (tells.apart u t other)))
+        | inl is ↦ subst (λ (x : T). among u (left t (x ∷ q)) ≡ among u (x ∷ q)) (sym is) (ap (among u) (left_same t q)
+            ∙ others_stay t u q other ∙ ap (λ b. b || among u q) (sym (tells.apart u t other)))
         | inr apart_v ↦ ap (among u) (left_other t v q apart_v) ∙ ap (λ b. same u v || b) (others_stay t u q other)
       ]
 
@@ -78,7 +80,8 @@ module _ {T : Type 0} {same : T → T → Bool} (tells : Tells same) where
 
   pub place_pushed_other : (q : List T) (t u : T) → u ≢ t → place (q ++ t ∷ []) u ≡ place q u
   place_pushed_other [] t u other = rw (tells.apart u t other)
-  place_pushed_other (o ∷ ws) t u other = ap (λ b. cond b (Some true) (cond (same u o) (Some false) None)) (among_pushed_other ws t u other)
+  place_pushed_other (o ∷ ws) t u other = ap (λ b. cond b (Some true) (cond (same u o) (Some false) None))
+      (among_pushed_other ws t u other)
 
   -- where the owner leaves and nobody waits, nobody else has a place
   pub place_none_next : (t u : T) (ws : List T) → left t ws ≡ [] → u ≢ t → None ≡ place (t ∷ ws) u
@@ -89,13 +92,15 @@ module _ {T : Type 0} {same : T → T → Bool} (tells : Tells same) where
   -- and where somebody waits, the others keep their places
   pub place_next : (t u w : T) (ws rest : List T) → left t ws ≡ w ∷ rest → u ≢ t → u ≢ w → place (w ∷ rest) u ≡ place (t ∷ ws) u
   place_next t u w ws rest is other apart_w =
-      let behind : among u ws ≡ among u rest = sym (others_stay t u ws other) ∙ ap (among u) is ∙ ap (λ b. b || among u rest) (tells.apart u w apart_w) in
+      let behind : among u ws ≡ among u rest = sym (others_stay t u ws other) ∙ ap (among u) is
+      ∙ ap (λ b. b || among u rest) (tells.apart u w apart_w) in
       rw (tells.apart u w apart_w, tells.apart u t other, behind)
 
   -- who owns the key next is another, and has waited
   pub next_other : (t w : T) (ws rest : List T) → left t ws ≡ w ∷ rest → w ≢ t
   next_other t w ws rest is same_w =
-      let none : among w (w ∷ rest) ≡ false = ap (among w) (sym is) ∙ subst (λ (x : T). among x (left t ws) ≡ false) (sym same_w) (gone t ws) in
+      let none : among w (w ∷ rest) ≡ false = ap (among w) (sym is) ∙ subst (λ (x : T). among x (left t ws) ≡ false)
+      (sym same_w) (gone t ws) in
       let there : among w (w ∷ rest) ≡ true = ap (λ b. b || among w rest) (tells.itself w) in
       absurd (cc)
 
@@ -113,6 +118,8 @@ module _ {T : Type 0} {same : T → T → Bool} (tells : Tells same) where
   nobody_leaves t [] none = refl
   nobody_leaves t (v ∷ q) none =
       elim (tells.decide v t) [
-        | inl is ↦ let here = ap (same t) is ∙ tells.itself t in absurd (let some : (same t v || among t q) ≡ true = ap (λ b. b || among t q) here in cc)
-        | inr other ↦ left_other t v q other ∙ ap (λ r. v ∷ r) (nobody_leaves t q (ap (λ b. b || among t q) (sym (tells.apart t v (λ h. other (sym h)))) ∙ none))
+        | inl is ↦ let here = ap (same t) is ∙ tells.itself t in absurd (let some : (same t v || among t q) ≡ true =
+            ap (λ b. b || among t q) here in cc)
+        | inr other ↦ left_other t v q other
+            ∙ ap (λ r. v ∷ r) (nobody_leaves t q (ap (λ b. b || among t q) (sym (tells.apart t v (λ h. other (sym h)))) ∙ none))
       ]

@@ -18,10 +18,12 @@ with_list cmp es k [] = without cmp es k
 with_list cmp es k (x ∷ xs) = put cmp es k (x ∷ xs)
 
 -- a key without a value is not taken out
-pub without_absent : {K V : Type 0} (cmp : K → K → Ordering) (es : List (K × V)) (k : K) → at cmp es k ≡ None → without cmp es k ≡ es
+pub without_absent : {K V : Type 0} (cmp : K → K → Ordering) (es : List (K × V)) (k : K) → at cmp es k ≡ None →
+    without cmp es k ≡ es
 without_absent cmp [] k none = refl
 without_absent cmp (e ∷ es) k none =
-    elim (cmp k e.0) as (λ r. match_ordering r None (Some e.1) (at cmp es k) ≡ None → match_ordering r (e ∷ es) es (e ∷ without cmp es k) ≡ e ∷ es) [
+    elim (cmp k e.0) as (λ r. match_ordering r None (Some e.1) (at cmp es k) ≡ None →
+    match_ordering r (e ∷ es) es (e ∷ without cmp es k) ≡ e ∷ es) [
       | Less ↦ λ h. refl
       | Equal ↦ λ h. absurd (cc)
       | Greater ↦ λ h. ap (λ r. e ∷ r) (without_absent cmp es k h)
@@ -35,7 +37,8 @@ module _ {K V : Type 0} (cmp : K → K → Ordering) (exact : (x y : K) → cmp 
   pub put_same : (es : List (K × V)) (k : K) (v : V) → at cmp es k ≡ Some v → put cmp es k v ≡ es
   put_same [] k v is = absurd (cc)
   put_same (e ∷ es) k v is =
-      elim (cmp k e.0) as (λ r. cmp k e.0 ≡ r → match_ordering r None (Some e.1) (at cmp es k) ≡ Some v → match_ordering r ((k, v) ∷ e ∷ es) ((k, v) ∷ es) (e ∷ put cmp es k v) ≡ e ∷ es) [
+      elim (cmp k e.0) as (λ r. cmp k e.0 ≡ r → match_ordering r None (Some e.1) (at cmp es k) ≡ Some v →
+      match_ordering r ((k, v) ∷ e ∷ es) ((k, v) ∷ es) (e ∷ put cmp es k v) ≡ e ∷ es) [
         | Less ↦ λ g h. absurd (cc)
         | Equal ↦ λ g h. ap (λ (x : K × V). x ∷ es) (same_pair k v e (exact k e.0 g) h)
         | Greater ↦ λ g h. ap (λ r. e ∷ r) (put_same es k v h)
@@ -50,7 +53,8 @@ module _ {K V : Type 0} (cmp : K → K → Ordering) (exact : (x y : K) → cmp 
     put_without : (es : List (K × V)) (k : K) (v : V) → IsAscending cmp es → put cmp (without cmp es k) k v ≡ put cmp es k v
     put_without [] k v up = refl
     put_without (e ∷ es) k v up =
-        elim (cmp k e.0) as (λ r. cmp k e.0 ≡ r → put cmp (match_ordering r (e ∷ es) es (e ∷ without cmp es k)) k v ≡ match_ordering r ((k, v) ∷ e ∷ es) ((k, v) ∷ es) (e ∷ put cmp es k v)) [
+        elim (cmp k e.0) as (λ r. cmp k e.0 ≡ r → put cmp (match_ordering r (e ∷ es) es (e ∷ without cmp es k)) k v
+        ≡ match_ordering r ((k, v) ∷ e ∷ es) ((k, v) ∷ es) (e ∷ put cmp es k v)) [
           | Less ↦ λ g. rw g
           | Equal ↦ λ g. put_below_all cmp es k v (below_all-equal cmp o k e.0 es g up.0)
           | Greater ↦ λ g. rw g (ap (λ r. e ∷ r) (put_without es k v up.1))
@@ -58,32 +62,38 @@ module _ {K V : Type 0} (cmp : K → K → Ordering) (exact : (x y : K) → cmp 
 
 module _ {K X : Type 0} (cmp : K → K → Ordering) (exact : (x y : K) → cmp x y ≡ Equal → x ≡ y) (o : IsTotalOrder cmp) where
   -- a list is put back in place of an empty one
-  pub list_back : (es : List (K × List X)) (k : K) (xs ys : List X) → with_list cmp (put cmp es k xs) k ys ≡ with_list cmp es k ys
+  pub list_back : (es : List (K × List X)) (k : K) (xs ys : List X) →
+      with_list cmp (put cmp es k xs) k ys ≡ with_list cmp es k ys
   list_back es k xs [] = laws.without_put cmp o es k xs
   list_back es k xs (y ∷ ys) = laws.put_put cmp o es k xs (y ∷ ys)
 
   -- the last of two lists that are put at a key stays
-  pub list_again : (es : List (K × List X)) (k : K) (xs ys : List X) → IsAscending cmp es → with_list cmp (with_list cmp es k xs) k ys ≡ with_list cmp es k ys
+  pub list_again : (es : List (K × List X)) (k : K) (xs ys : List X) → IsAscending cmp es →
+      with_list cmp (with_list cmp es k xs) k ys ≡ with_list cmp es k ys
   list_again es k [] [] up = without_absent cmp (without cmp es k) k (laws.at_without cmp o es k up)
   list_again es k [] (y ∷ ys) up = put_without cmp exact o es k (y ∷ ys) up
   list_again es k (x ∷ xs) ys up = list_back es k (x ∷ xs) ys
 
-  same_of : (es : List (K × List X)) (k : K) (found : Option (List X)) → at cmp es k ≡ found → found ≢ Some [] → with_list cmp es k (unwrap_or found []) ≡ es
+  same_of : (es : List (K × List X)) (k : K) (found : Option (List X)) → at cmp es k ≡ found → found ≢ Some [] →
+      with_list cmp es k (unwrap_or found []) ≡ es
   same_of es k None is filled = without_absent cmp es k is
   same_of es k (Some []) is filled = absurd (filled refl)
   same_of es k (Some (x ∷ xs)) is filled = put_same cmp exact es k (x ∷ xs) is
 
   -- what a key has, put at it once more
-  pub list_same : (es : List (K × List X)) (k : K) → at cmp es k ≢ Some [] → with_list cmp es k (unwrap_or (at cmp es k) []) ≡ es
+  pub list_same : (es : List (K × List X)) (k : K) → at cmp es k ≢ Some [] → with_list cmp es k (unwrap_or (at cmp es k) [])
+      ≡ es
   list_same es k filled = same_of es k (at cmp es k) refl filled
 
   -- a key has the list that was put there
-  pub list_there : (es : List (K × List X)) (k : K) (xs : List X) → IsAscending cmp es → unwrap_or (at cmp (with_list cmp es k xs) k) [] ≡ xs
+  pub list_there : (es : List (K × List X)) (k : K) (xs : List X) → IsAscending cmp es →
+      unwrap_or (at cmp (with_list cmp es k xs) k) [] ≡ xs
   list_there es k [] up = rw (laws.at_without cmp o es k up)
   list_there es k (x ∷ xs) up = rw (laws.at_put_same cmp o es k (x ∷ xs))
 
   -- and any other key has what it had
-  pub at_other : (es : List (K × List X)) (k q : K) (xs : List X) → IsAscending cmp es → cmp q k ≢ Equal → at cmp (with_list cmp es k xs) q ≡ at cmp es q
+  pub at_other : (es : List (K × List X)) (k q : K) (xs : List X) → IsAscending cmp es → cmp q k ≢ Equal →
+      at cmp (with_list cmp es k xs) q ≡ at cmp es q
   at_other es k q [] up other = laws.at_without_other cmp o es k q up other
   at_other es k q (x ∷ xs) up other = laws.at_put_other cmp o es k q (x ∷ xs) other
 
@@ -106,6 +116,7 @@ module _ {K X : Type 0} (cmp : K → K → Ordering) (exact : (x y : K) → cmp 
   }
 
   -- a list with an item more is not empty
-  pub put_list : (es : List (K × List X)) (k : K) (xs : List X) (x : X) → with_list cmp es k (xs ++ x ∷ []) ≡ put cmp es k (xs ++ x ∷ [])
+  pub put_list : (es : List (K × List X)) (k : K) (xs : List X) (x : X) → with_list cmp es k (xs ++ x ∷ []) ≡ put cmp es k
+      (xs ++ x ∷ [])
   put_list es k [] x = refl
   put_list es k (y ∷ ys) x = refl

@@ -41,10 +41,12 @@ use Rattle.frame_laws.proofs.Kits.{either_kept, sent_kept}
 
 module _ (R : NodeState → NodeState → Type 0) (kit : ClosedUnderSteps R) where
   pub keeps_read_kept : (s : NodeState) (tx : TxId) (key : Key) (read : Read) → R s (with_read s tx key read)
-  keeps_read_kept s tx key read = on_entry_kept R kit s tx (λ (e : TxEntry). record e { reads = put key_cmp e.reads key read }) (entry_of s tx)
+  keeps_read_kept s tx key read =
+      on_entry_kept R kit s tx (λ (e : TxEntry). record e { reads = put key_cmp e.reads key read }) (entry_of s tx)
 
   pub keeps_write_kept : (s : NodeState) (tx : TxId) (key : Key) (new : Option (List ℕ)) → R s (with_write s tx key new)
-  keeps_write_kept s tx key new = on_entry_kept R kit s tx (λ (e : TxEntry). record e { writes = put key_cmp e.writes key new }) (entry_of s tx)
+  keeps_write_kept s tx key new =
+      on_entry_kept R kit s tx (λ (e : TxEntry). record e { writes = put key_cmp e.writes key new }) (entry_of s tx)
 
   pub takes_state_kept : (s : NodeState) (tx : TxId) (st : TxState) → R s (with_tx_state s tx st)
   takes_state_kept s tx st = on_entry_kept R kit s tx (λ (e : TxEntry). record e { state = st }) (entry_of s tx)
@@ -53,7 +55,8 @@ module _ (R : NodeState → NodeState → Type 0) (kit : ClosedUnderSteps R) whe
   takes_outcome_kept s tx a = on_entry_kept R kit s tx (λ (e : TxEntry). record e { outcome = Some a }) (entry_of s tx)
 
   pub touches_kept : (s : NodeState) (tx : TxId) (key : Key) → R s (with_touched s tx key)
-  touches_kept s tx key = on_entry_kept R kit s tx (λ (e : TxEntry). record e { keys = with_member key_cmp e.keys key }) (entry_of s tx)
+  touches_kept s tx key = on_entry_kept R kit s tx (λ (e : TxEntry). record e { keys = with_member key_cmp e.keys key })
+      (entry_of s tx)
 
   pub asks_lock_kept : (s : NodeState) (tx : TxId) (key : Key) (primary : NodeId) → R s (with_lock_asked s tx key primary)
   asks_lock_kept s tx key primary = on_entry_kept R kit s tx (λ (e : TxEntry). record e {
@@ -73,7 +76,8 @@ module _ (R : NodeState → NodeState → Type 0) (kit : ClosedUnderSteps R) whe
 
   -- The commit's first phase.
 
-  pub begins_prepare_kept : (s : NodeState) (tx : TxId) (nodes : List NodeId) (shares : List Share) → R s (with_preparing s tx nodes shares)
+  pub begins_prepare_kept : (s : NodeState) (tx : TxId) (nodes : List NodeId) (shares : List Share) →
+      R s (with_preparing s tx nodes shares)
   begins_prepare_kept s tx nodes shares = on_entry_kept R kit s tx (λ (e : TxEntry). record e {
     state = state.Preparing;
     asked = nodes;
@@ -81,12 +85,15 @@ module _ (R : NodeState → NodeState → Type 0) (kit : ClosedUnderSteps R) whe
     shares = shares;
   }) (entry_of s tx)
 
-  pub prepares_kept : (s : NodeState) (tx : TxId) (top : TopVer) (entry : TxEntry) (nodes : List NodeId) (shares : List Share) → R s (after_send_prepares s tx top entry nodes shares)
+  pub prepares_kept : (s : NodeState) (tx : TxId) (top : TopVer) (entry : TxEntry) (nodes : List NodeId)
+      (shares : List Share) → R s (after_send_prepares s tx top entry nodes shares)
   prepares_kept s tx top entry nodes shares =
       kit.andthen s _ _ (begins_prepare_kept s tx nodes shares)
-      (kit.sent_all (with_preparing s tx nodes shares) (prepare_outs s tx top entry shares nodes) (prepare_plain s tx top entry shares nodes))
+      (kit.sent_all (with_preparing s tx nodes shares) (prepare_outs s tx top entry shares nodes)
+      (prepare_plain s tx top entry shares nodes))
 
-  pub commits_with_kept : (s : NodeState) (tx : TxId) (top : TopVer) (entry : TxEntry) (keys : List Key) → R s (after_commit_of_keys s tx top entry keys)
+  pub commits_with_kept : (s : NodeState) (tx : TxId) (top : TopVer) (entry : TxEntry) (keys : List Key) →
+      R s (after_commit_of_keys s tx top entry keys)
   commits_with_kept s tx top entry [] = decides_kept R kit s tx true
   commits_with_kept s tx top entry (key ∷ keys) =
       prepares_kept s tx top entry (primaries_at s (key ∷ keys)) (shares_of s.installed (key ∷ keys))
@@ -100,26 +107,34 @@ module _ (R : NodeState → NodeState → Type 0) (kit : ClosedUnderSteps R) whe
 
   -- Accesses.
 
-  pub access_done_kept : (s : NodeState) (tx : TxId) (top : TopVer) (block : Bool) (a : Answer) → R s (after_access_done s tx top block a)
+  pub access_done_kept : (s : NodeState) (tx : TxId) (top : TopVer) (block : Bool) (a : Answer) →
+      R s (after_access_done s tx top block a)
   access_done_kept s tx top true a = answered_kept R kit s tx.session a
   access_done_kept s tx top false a = kit.andthen s _ _ (takes_outcome_kept s tx a) (commits_kept (with_outcome s tx a) tx top)
 
   pub access_refused_kept : (s : NodeState) (tx : TxId) (block : Bool) (a : Answer) → R s (after_access_refused s tx block a)
   access_refused_kept s tx true a = answered_kept R kit s tx.session a
-  access_refused_kept s tx false a = kit.andthen s _ _ (takes_outcome_kept s tx a) (decides_kept R kit (with_outcome s tx a) tx false)
+  access_refused_kept s tx false a =
+      kit.andthen s _ _ (takes_outcome_kept s tx a) (decides_kept R kit (with_outcome s tx a) tx false)
 
-  pub adds_kept : (s : NodeState) (tx : TxId) (top : TopVer) (block : Bool) (key : Key) (r : Result (List ℕ) Answer) → R s (after_add s tx top block key r)
+  pub adds_kept : (s : NodeState) (tx : TxId) (top : TopVer) (block : Bool) (key : Key) (r : Result (List ℕ) Answer) →
+      R s (after_add s tx top block key r)
   adds_kept s tx top block key (Ok value) =
-      kit.andthen s _ _ (keeps_write_kept s tx key (Some value)) (access_done_kept (with_write s tx key (Some value)) tx top block (answer.Found value))
+      kit.andthen s _ _ (keeps_write_kept s tx key (Some value))
+      (access_done_kept (with_write s tx key (Some value)) tx top block (answer.Found value))
   adds_kept s tx top block key (Err a) = access_refused_kept s tx block a
 
-  pub does_known_kept : (s : NodeState) (tx : TxId) (top : TopVer) (block : Bool) (c : Command) → R s (after_known_access s tx top block c)
-  does_known_kept s tx top block (command.Get key) = access_done_kept s tx top block (answer_of_value (value_at (entry_of s tx) key))
+  pub does_known_kept : (s : NodeState) (tx : TxId) (top : TopVer) (block : Bool) (c : Command) →
+      R s (after_known_access s tx top block c)
+  does_known_kept s tx top block (command.Get key) =
+      access_done_kept s tx top block (answer_of_value (value_at (entry_of s tx) key))
   does_known_kept s tx top block (command.Put key value) =
-      kit.andthen s _ _ (keeps_write_kept s tx key (Some value)) (access_done_kept (with_write s tx key (Some value)) tx top block answer.Done)
+      kit.andthen s _ _ (keeps_write_kept s tx key (Some value))
+      (access_done_kept (with_write s tx key (Some value)) tx top block answer.Done)
   does_known_kept s tx top block (command.Remove key) =
       kit.andthen s _ _ (keeps_write_kept s tx key None) (access_done_kept (with_write s tx key None) tx top block answer.Done)
-  does_known_kept s tx top block (command.Add key amount) = adds_kept s tx top block key (sum_with_value (value_at (entry_of s tx) key) amount)
+  does_known_kept s tx top block (command.Add key amount) =
+      adds_kept s tx top block key (sum_with_value (value_at (entry_of s tx) key) amount)
   does_known_kept s tx top block _ = kit.nothing s
 
   pub near_hit_kept : (s : NodeState) (tx : TxId) (key : Key) (e : NearEntry) → R s (after_near_hit s tx key e)
@@ -127,16 +142,19 @@ module _ (R : NodeState → NodeState → Type 0) (kit : ClosedUnderSteps R) whe
       kit.andthen s _ _ (with_near_kept R kit s key (near_front (near_of s key) e))
       (keeps_read_kept (with_near s key (near_front (near_of s key) e)) tx key (record { found = Some e.value; ver = e.ver }))
 
-  pub optimistic_read_kept : (s : NodeState) (tx : TxId) (top : TopVer) (block : Bool) (c : Command) (key : Key) (primary : NodeId) (e : Option NearEntry) → R s (after_optimistic_read s tx top block c key primary e)
+  pub optimistic_read_kept : (s : NodeState) (tx : TxId) (top : TopVer) (block : Bool) (c : Command) (key : Key)
+      (primary : NodeId) (e : Option NearEntry) → R s (after_optimistic_read s tx top block c key primary e)
   optimistic_read_kept s tx top block c key primary (Some e) =
       kit.andthen s _ _ (touches_kept s tx key)
       (kit.andthen _ _ _ (near_hit_kept (with_touched s tx key) tx key e)
       (does_known_kept (after_near_hit (with_touched s tx key) tx key e) tx top block c))
   optimistic_read_kept s tx top block c key primary None =
       let near = is_near_kept s key in
-      kit.andthen s _ _ (asks_value_kept s tx key near) (sent_kept R kit (with_value_asked s tx key near) primary (msg.Get tx key near) refl)
+      kit.andthen s _ _ (asks_value_kept s tx key near) (sent_kept R kit (with_value_asked s tx key near) primary
+      (msg.Get tx key near) refl)
 
-  pub optimistic_access_kept : (s : NodeState) (tx : TxId) (top : TopVer) (block : Bool) (c : Command) (key : Key) (primary : NodeId) → R s (after_optimistic_access s tx top block c key primary)
+  pub optimistic_access_kept : (s : NodeState) (tx : TxId) (top : TopVer) (block : Bool) (c : Command) (key : Key)
+      (primary : NodeId) → R s (after_optimistic_access s tx top block c key primary)
   optimistic_access_kept s tx top block (command.Get k) key primary =
       optimistic_read_kept s tx top block (command.Get k) key primary (near_entry (near_of s key) key)
   optimistic_access_kept s tx top block (command.Add k amount) key primary =
@@ -144,12 +162,15 @@ module _ (R : NodeState → NodeState → Type 0) (kit : ClosedUnderSteps R) whe
   optimistic_access_kept s tx top block c key primary =
       kit.andthen s _ _ (touches_kept s tx key) (does_known_kept (with_touched s tx key) tx top block c)
 
-  pub new_access_kept : (s : NodeState) (tx : TxId) (top : TopVer) (block : Bool) (c : Command) (key : Key) (primary : NodeId) (m : Mode) → R s (after_new_access s tx top block c key primary m)
+  pub new_access_kept : (s : NodeState) (tx : TxId) (top : TopVer) (block : Bool) (c : Command) (key : Key) (primary : NodeId)
+      (m : Mode) → R s (after_new_access s tx top block c key primary m)
   new_access_kept s tx top block c key primary mode.Pessimistic =
-      kit.andthen s _ _ (asks_lock_kept s tx key primary) (sent_kept R kit (with_lock_asked s tx key primary) primary (msg.Lock tx top key) refl)
+      kit.andthen s _ _ (asks_lock_kept s tx key primary) (sent_kept R kit (with_lock_asked s tx key primary) primary
+      (msg.Lock tx top key) refl)
   new_access_kept s tx top block c key primary mode.Optimistic = optimistic_access_kept s tx top block c key primary
 
-  pub new_key_kept : (s : NodeState) (tx : TxId) (top : TopVer) (block : Bool) (c : Command) (key : Key) (primary : NodeId) (e : TxEntry) → R s (after_new_key s tx top block c key primary e)
+  pub new_key_kept : (s : NodeState) (tx : TxId) (top : TopVer) (block : Bool) (c : Command) (key : Key) (primary : NodeId)
+      (e : TxEntry) → R s (after_new_key s tx top block c key primary e)
   new_key_kept s tx top block c key primary e =
       either_kept R kit s _ _ (nat_le most_keys (length e.keys))
       (access_refused_kept s tx block answer.TooManyKeys)
@@ -157,42 +178,50 @@ module _ (R : NodeState → NodeState → Type 0) (kit : ClosedUnderSteps R) whe
       (new_access_kept s tx top block c key primary e.mode)
       (fails_kept R kit s tx (fault.NodeLost primary)))
 
-  pub accesses_at_kept : (s : NodeState) (tx : TxId) (top : TopVer) (block : Bool) (c : Command) (key : Key) (primary : Option NodeId) (e : TxEntry) → R s (after_access_at s tx top block c key primary e)
+  pub accesses_at_kept : (s : NodeState) (tx : TxId) (top : TopVer) (block : Bool) (c : Command) (key : Key)
+      (primary : Option NodeId) (e : TxEntry) → R s (after_access_at s tx top block c key primary e)
   accesses_at_kept s tx top block c key None e = access_refused_kept s tx block (answer.NoCache key.cache)
   accesses_at_kept s tx top block c key (Some primary) e =
       either_kept R kit s _ _ (has key_cmp e.keys key)
       (does_known_kept s tx top block c)
       (new_key_kept s tx top block c key primary e)
 
-  pub accesses_kept : (s : NodeState) (tx : TxId) (top : TopVer) (block : Bool) (c : Command) (key : Key) (e : Option TxEntry) → R s (after_access s tx top block c key e)
+  pub accesses_kept : (s : NodeState) (tx : TxId) (top : TopVer) (block : Bool) (c : Command) (key : Key)
+      (e : Option TxEntry) → R s (after_access s tx top block c key e)
   accesses_kept s tx top block c key None = kit.nothing s
   accesses_kept s tx top block c key (Some e) = accesses_at_kept s tx top block c key (primary_at s key) e
 
-  pub does_access_kept : (s : NodeState) (tx : TxId) (top : TopVer) (block : Bool) (c : Command) (key : Option Key) → R s (after_run_access s tx top block c key)
+  pub does_access_kept : (s : NodeState) (tx : TxId) (top : TopVer) (block : Bool) (c : Command) (key : Option Key) →
+      R s (after_run_access s tx top block c key)
   does_access_kept s tx top block command.Commit None = commits_kept s tx top
   does_access_kept s tx top block c None = kit.nothing s
   does_access_kept s tx top block c (Some key) = accesses_kept s tx top block c key (entry_of s tx)
 
-  pub does_kept : (s : NodeState) (tx : TxId) (top : TopVer) (block : Bool) (c : Command) → R s (after_run_command s tx top block c)
+  pub does_kept : (s : NodeState) (tx : TxId) (top : TopVer) (block : Bool) (c : Command) →
+      R s (after_run_command s tx top block c)
   does_kept s tx top block c = does_access_kept s tx top block c (access_key c)
 
   -- Answers of the primaries.
 
-  pub keeps_found_kept : (s : NodeState) (tx : TxId) (key : Key) (found : Found) (c : Command) → R s (with_found_read s tx key found c)
+  pub keeps_found_kept : (s : NodeState) (tx : TxId) (key : Key) (found : Found) (c : Command) →
+      R s (with_found_read s tx key found c)
   keeps_found_kept s tx key found (command.Get k) = keeps_read_kept s tx key (read_of found)
   keeps_found_kept s tx key found (command.Add k amount) = keeps_read_kept s tx key (read_of found)
   keeps_found_kept s tx key found _ = kit.nothing s
 
-  pub goes_on_with_kept : (s : NodeState) (tx : TxId) (top : TopVer) (block : Bool) (key : Key) (found : Found) (c : Option Command) → R s (after_resume_with s tx top block key found c)
+  pub goes_on_with_kept : (s : NodeState) (tx : TxId) (top : TopVer) (block : Bool) (key : Key) (found : Found)
+      (c : Option Command) → R s (after_resume_with s tx top block key found c)
   goes_on_with_kept s tx top block key found None = kit.nothing s
   goes_on_with_kept s tx top block key found (Some c) =
       kit.andthen s _ _ (keeps_found_kept s tx key found c) (does_known_kept (with_found_read s tx key found c) tx top block c)
 
-  pub goes_on_at_kept : (s : NodeState) (tx : TxId) (key : Key) (found : Found) (top : Option TopVer) (d : Option SessionState) → R s (after_resume s tx key found top d)
+  pub goes_on_at_kept : (s : NodeState) (tx : TxId) (key : Key) (found : Found) (top : Option TopVer)
+      (d : Option SessionState) → R s (after_resume s tx key found top d)
   goes_on_at_kept s tx key found (Some top) (Some d) = goes_on_with_kept s tx top d.block key found d.pending
   goes_on_at_kept s tx key found _ _ = kit.nothing s
 
-  pub lock_ok_in_kept : (s : NodeState) (tx : TxId) (key : Key) (found : Found) (e : TxEntry) (st : TxState) → R s (after_lock_ok_in s tx key found e st)
+  pub lock_ok_in_kept : (s : NodeState) (tx : TxId) (key : Key) (found : Found) (e : TxEntry) (st : TxState) →
+      R s (after_lock_ok_in s tx key found e st)
   lock_ok_in_kept s tx key found e state.Waiting =
       either_kept R kit s _ _ (is_pending_access key (session_state_of s tx.session))
       (kit.andthen s _ _ (takes_state_kept s tx state.Active)
@@ -200,7 +229,8 @@ module _ (R : NodeState → NodeState → Type 0) (kit : ClosedUnderSteps R) whe
       (kit.nothing s)
   lock_ok_in_kept s tx key found e _ = kit.nothing s
 
-  pub lock_ok_by_kept : (s : NodeState) (tx : TxId) (key : Key) (found : Found) (e : Option TxEntry) → R s (after_lock_ok_of s tx key found e)
+  pub lock_ok_by_kept : (s : NodeState) (tx : TxId) (key : Key) (found : Found) (e : Option TxEntry) →
+      R s (after_lock_ok_of s tx key found e)
   lock_ok_by_kept s tx key found None = kit.nothing s
   lock_ok_by_kept s tx key found (Some e) = lock_ok_in_kept s tx key found e e.state
 
@@ -212,19 +242,23 @@ module _ (R : NodeState → NodeState → Type 0) (kit : ClosedUnderSteps R) whe
       with_near_kept R kit s key (near_put (near_size s key) (near_of s key) (record { key = key; value = value; ver = ver }))
   near_kept_kept s key _ _ = kit.nothing s
 
-  pub get_ok_for_kept : (s : NodeState) (tx : TxId) (key : Key) (found : Found) (e : TxEntry) (getting : Getting) → R s (after_get_ok_for s tx key found e getting)
+  pub get_ok_for_kept : (s : NodeState) (tx : TxId) (key : Key) (found : Found) (e : TxEntry) (getting : Getting) →
+      R s (after_get_ok_for s tx key found e getting)
   get_ok_for_kept s tx key found e getting =
       either_kept R kit s _ _ (same_key getting.key key)
       (kit.andthen s _ _ (got_value_kept s tx)
       (kit.andthen _ _ _ (near_kept_kept (without_getting s tx) key getting.near found)
-      (goes_on_at_kept (after_keep_near (without_getting s tx) key getting.near found) tx key found e.top (session_state_of s tx.session))))
+      (goes_on_at_kept (after_keep_near (without_getting s tx) key getting.near found) tx key found e.top
+      (session_state_of s tx.session))))
       (kit.nothing s)
 
-  pub get_ok_in_kept : (s : NodeState) (tx : TxId) (key : Key) (found : Found) (e : TxEntry) (getting : Option Getting) → R s (after_get_ok_in s tx key found e getting)
+  pub get_ok_in_kept : (s : NodeState) (tx : TxId) (key : Key) (found : Found) (e : TxEntry) (getting : Option Getting) →
+      R s (after_get_ok_in s tx key found e getting)
   get_ok_in_kept s tx key found e None = kit.nothing s
   get_ok_in_kept s tx key found e (Some getting) = get_ok_for_kept s tx key found e getting
 
-  pub get_ok_by_kept : (s : NodeState) (tx : TxId) (key : Key) (found : Found) (e : Option TxEntry) → R s (after_get_ok_of s tx key found e)
+  pub get_ok_by_kept : (s : NodeState) (tx : TxId) (key : Key) (found : Found) (e : Option TxEntry) →
+      R s (after_get_ok_of s tx key found e)
   get_ok_by_kept s tx key found None = kit.nothing s
   get_ok_by_kept s tx key found (Some e) = get_ok_in_kept s tx key found e e.getting
 
@@ -234,7 +268,8 @@ module _ (R : NodeState → NodeState → Type 0) (kit : ClosedUnderSteps R) whe
   -- Prepared, PrepareFail, Finished, BackupFinished.
 
   pub no_longer_kept : (s : NodeState) (tx : TxId) (from : NodeId) → R s (without_awaited s tx from)
-  no_longer_kept s tx from = on_entry_kept R kit s tx (λ (e : TxEntry). record e { awaited = without_member node_cmp e.awaited from }) (entry_of s tx)
+  no_longer_kept s tx from =
+      on_entry_kept R kit s tx (λ (e : TxEntry). record e { awaited = without_member node_cmp e.awaited from }) (entry_of s tx)
 
   pub prepared_in_kept : (s : NodeState) (from : NodeId) (tx : TxId) (st : TxState) → R s (after_prepared_in s from tx st)
   prepared_in_kept s from tx state.Preparing = no_longer_kept s tx from
@@ -258,12 +293,14 @@ module _ (R : NodeState → NodeState → Type 0) (kit : ClosedUnderSteps R) whe
   pub near_finished_kept : (s : NodeState) (from : NodeId) (tx : TxId) → R s (after_finished_at_starter s from tx)
   near_finished_kept s from tx = finished_in_kept s from tx (tx_state_of s tx)
 
-  pub near_backup_finished_kept : (s : NodeState) (from : NodeId) (tx : TxId) (primary : NodeId) → R s (after_backup_finished_at_starter s from tx primary)
+  pub near_backup_finished_kept : (s : NodeState) (from : NodeId) (tx : TxId) (primary : NodeId) →
+      R s (after_backup_finished_at_starter s from tx primary)
   near_backup_finished_kept s from tx primary = on_entry_kept R kit s tx (λ (e : TxEntry). record e {
     backups = without_member share_cmp e.backups (record { holder = from; primary = primary });
   }) (entry_of s tx)
 
-  pub near_update_row_kept : (s : NodeState) (from : NodeId) (tx : TxId) (key : Key) (new : Option (List ℕ)) (ver : CacheVersion) → R s (after_near_update s from tx key new ver)
+  pub near_update_row_kept : (s : NodeState) (from : NodeId) (tx : TxId) (key : Key) (new : Option (List ℕ))
+      (ver : CacheVersion) → R s (after_near_update s from tx key new ver)
   near_update_row_kept s from tx key new ver =
       kit.andthen s _ _ (with_near_kept R kit s key (near_updated (near_of s key) key new ver))
       (sent_kept R kit (with_near s key (near_updated (near_of s key) key new ver)) from (msg.NearDone tx key) refl)

@@ -33,7 +33,8 @@ pub plain : (s after : NodeState) → OnlyAppends (with_act_begun s) after → P
 plain s after e = (leaves s after e, rw e.noted_is (own_alone e.more_noted e.own))
 
 -- with a record before all that it brings
-pub after_first : (s after : NodeState) (r : Rec) → OnlyAppends (with_act_begun s) after → Leaves s (act_result after).state × Notes (r ∷ (act_result after).recs) (r ∷ []) []
+pub after_first : (s after : NodeState) (r : Rec) → OnlyAppends (with_act_begun s) after → Leaves s (act_result after).state
+    × Notes (r ∷ (act_result after).recs) (r ∷ []) []
 after_first s after r e = (
   leaves s after e,
   record {
@@ -46,7 +47,8 @@ after_first s after r e = (
 )
 
 -- a topology event is noted between what learning it brings and the rest
-pub between : (s learned after : NodeState) (r : Rec) → OnlyAppends (with_act_begun s) learned → OnlyAppends (with_note learned r) after → Leaves s (act_result after).state × Notes (act_result after).recs [] (r ∷ [])
+pub between : (s learned after : NodeState) (r : Rec) → OnlyAppends (with_act_begun s) learned →
+    OnlyAppends (with_note learned r) after → Leaves s (act_result after).state × Notes (act_result after).recs [] (r ∷ [])
 between s learned after r first second = (
   record {
     same_me = second.same_me ∙ first.same_me;
@@ -54,13 +56,15 @@ between s learned after r first second = (
     same_now = second.same_now ∙ first.same_now;
     taken = refl;
     sent = first.more_sent ++ second.more_sent;
-    outbox_is = second.outbox_is ∙ ap (λ os. os ++ second.more_sent) first.outbox_is ∙ append_twice s.outbox first.more_sent second.more_sent;
+    outbox_is = second.outbox_is ∙ ap (λ os. os ++ second.more_sent) first.outbox_is
+        ∙ append_twice s.outbox first.more_sent second.more_sent;
   },
   record {
     first = first.more_noted;
     last = second.more_noted;
     first_own = first.own;
     last_own = second.own;
-    recs_are = second.noted_is ∙ ap (λ rs. (rs ++ r ∷ []) ++ second.more_noted) first.noted_is ∙ append_twice first.more_noted (r ∷ []) second.more_noted;
+    recs_are = second.noted_is ∙ ap (λ rs. (rs ++ r ∷ []) ++ second.more_noted) first.noted_is
+        ∙ append_twice first.more_noted (r ∷ []) second.more_noted;
   },
 )

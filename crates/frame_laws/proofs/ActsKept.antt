@@ -34,28 +34,33 @@ module _ (R : NodeState → NodeState → Type 0) (all : ClosedUnderAllSteps R) 
   kit = all.plain
 
   finished_row_kept : (s : NodeState) (from : NodeId) (tx : TxId) → R s (after_finished s from tx)
-  finished_row_kept s from tx = kit.andthen s (after_finished_at_starter s from tx) (after_finished s from tx) (near_finished_kept R kit s from tx) (recovery_finished_kept R kit (after_finished_at_starter s from tx) from tx)
+  finished_row_kept s from tx = kit.andthen s (after_finished_at_starter s from tx) (after_finished s from tx)
+      (near_finished_kept R kit s from tx) (recovery_finished_kept R kit (after_finished_at_starter s from tx) from tx)
 
-  backup_finished_row_kept : (s : NodeState) (from : NodeId) (tx : TxId) (primary : NodeId) → R s (after_backup_finished s from tx primary)
+  backup_finished_row_kept : (s : NodeState) (from : NodeId) (tx : TxId) (primary : NodeId) →
+      R s (after_backup_finished s from tx primary)
   backup_finished_row_kept s from tx primary =
       let own = after_backup_finished_at_primary s from tx primary in
       let near = after_backup_finished_at_starter own from tx primary in
       kit.andthen s own (after_backup_finished s from tx primary) (own_backup_finished_kept R kit s from tx primary)
-      (kit.andthen own near (after_backup_finished s from tx primary) (near_backup_finished_kept R kit own from tx primary) (recovery_backup_finished_kept R kit near from tx primary))
+      (kit.andthen own near (after_backup_finished s from tx primary) (near_backup_finished_kept R kit own from tx primary)
+      (recovery_backup_finished_kept R kit near from tx primary))
 
   message_row_kept : (s : NodeState) (from : NodeId) (m : Message) → R s (after_message s from m)
   message_row_kept s from (msg.Lock tx top key) = lock_row_kept R kit s from tx top key
   message_row_kept s from (msg.LockOk tx key found) = lock_ok_row_kept R kit s tx key found
   message_row_kept s from (msg.Get tx key near) = get_row_kept R kit s from tx key near
   message_row_kept s from (msg.GetOk tx key found) = get_ok_row_kept R kit s tx key found
-  message_row_kept s from (msg.Prepare tx top mode shares wanted writes) = prepare_row_kept R kit s from tx top mode shares wanted writes
+  message_row_kept s from (msg.Prepare tx top mode shares wanted writes) =
+      prepare_row_kept R kit s from tx top mode shares wanted writes
   message_row_kept s from (msg.Prepared tx) = prepared_row_kept R kit s from tx
   message_row_kept s from (msg.PrepareFail tx why) = prepare_fail_row_kept R kit s tx why
   message_row_kept s from (msg.Finish tx commit) = finish_row_kept R kit s from tx commit
   message_row_kept s from (msg.Finished tx) = finished_row_kept s from tx
   message_row_kept s from (msg.Edges tx round asked) = edges_row_kept R kit s from tx round asked
   message_row_kept s from (msg.EdgesOk tx round act waits) = edges_ok_row_kept R kit s from tx round act waits
-  message_row_kept s from (msg.BackupPrepare tx top shares primary writes) = backup_prepare_row_kept R kit s from tx top shares primary writes
+  message_row_kept s from (msg.BackupPrepare tx top shares primary writes) =
+      backup_prepare_row_kept R kit s from tx top shares primary writes
   message_row_kept s from (msg.BackupPrepared tx) = backup_prepared_row_kept R kit s from tx
   message_row_kept s from (msg.BackupFinish tx primary commit) = backup_finish_row_kept R kit s from tx primary commit
   message_row_kept s from (msg.BackupFinished tx primary) = backup_finished_row_kept s from tx primary
@@ -77,7 +82,8 @@ module _ (R : NodeState → NodeState → Type 0) (all : ClosedUnderAllSteps R) 
       let round = after_begin_round primary place in
       kit.andthen s near (after_event_effects s place (topo.Left gone)) (near_side_left_kept R kit s gone)
       (kit.andthen near primary (after_event_effects s place (topo.Left gone)) (primary_left_kept R kit near gone)
-      (kit.andthen primary round (after_event_effects s place (topo.Left gone)) (begins_round_kept R kit primary place) (search_left_kept R kit round gone)))
+      (kit.andthen primary round (after_event_effects s place (topo.Left gone)) (begins_round_kept R kit primary place)
+      (search_left_kept R kit round gone)))
   brings_kept s place (topo.Join member) = kit.nothing s
   brings_kept s place topo.Minor = kit.nothing s
   brings_kept s place (topo.Start cache) = kit.nothing s
@@ -87,20 +93,27 @@ module _ (R : NodeState → NodeState → Type 0) (all : ClosedUnderAllSteps R) 
   then_closed_kept a b first = kit.andthen a b (after_closing_rules b) first (closed_kept R all b)
 
   -- what an act brings once it has begun; seeing a topology event is two parts, with its record between them
-  pub message_kept : (s : NodeState) (from : NodeId) (m : Message) → R (with_act_begun s) (after_closing_rules (after_message (with_act_begun s) from m))
-  message_kept s from m = then_closed_kept (with_act_begun s) (after_message (with_act_begun s) from m) (message_row_kept (with_act_begun s) from m)
+  pub message_kept : (s : NodeState) (from : NodeId) (m : Message) →
+      R (with_act_begun s) (after_closing_rules (after_message (with_act_begun s) from m))
+  message_kept s from m = then_closed_kept (with_act_begun s) (after_message (with_act_begun s) from m)
+      (message_row_kept (with_act_begun s) from m)
 
   pub learning_kept : (s : NodeState) (event : TopoEvent) → R (with_act_begun s) (after_learn (with_act_begun s) event)
   learning_kept s event = learns_kept R all (with_act_begun s) event
 
-  pub seen_kept : (s : NodeState) (place : ℕ) (event : TopoEvent) → R s (after_closing_rules (after_event_effects s place event))
+  pub seen_kept : (s : NodeState) (place : ℕ) (event : TopoEvent) →
+      R s (after_closing_rules (after_event_effects s place event))
   seen_kept s place event = then_closed_kept s (after_event_effects s place event) (brings_kept s place event)
 
-  pub expiry_kept : (s : NodeState) (tx : TxId) → R (with_act_begun s) (after_closing_rules (after_expire (with_act_begun s) tx))
-  expiry_kept s tx = then_closed_kept (with_act_begun s) (after_expire (with_act_begun s) tx) (expire_row_kept R kit (with_act_begun s) tx)
+  pub expiry_kept : (s : NodeState) (tx : TxId) →
+      R (with_act_begun s) (after_closing_rules (after_expire (with_act_begun s) tx))
+  expiry_kept s tx = then_closed_kept (with_act_begun s) (after_expire (with_act_begun s) tx)
+      (expire_row_kept R kit (with_act_begun s) tx)
 
-  pub call_kept : (s : NodeState) (session : ℕ) → R (with_act_begun s) (after_closing_rules (after_call (with_act_begun s) session))
-  call_kept s session = then_closed_kept (with_act_begun s) (after_call (with_act_begun s) session) (call_row_kept R kit (with_act_begun s) session)
+  pub call_kept : (s : NodeState) (session : ℕ) →
+      R (with_act_begun s) (after_closing_rules (after_call (with_act_begun s) session))
+  call_kept s session = then_closed_kept (with_act_begun s) (after_call (with_act_begun s) session)
+      (call_row_kept R kit (with_act_begun s) session)
 
   pub answer_kept : (s : NodeState) (session : ℕ) → R (with_act_begun s) (after_answer (with_act_begun s) session)
   answer_kept s session = answer_row_kept R kit (with_act_begun s) session

@@ -31,7 +31,8 @@ module _ (R : NodeState → NodeState → Type 0) (kit : ClosedUnderSteps R) whe
   phase_over_kept s tx e state.RollingBack = ends_kept R kit s tx e.state e.outcome e.fault
   phase_over_kept s tx e state.Ended = kit.nothing s
 
-  pub near_on_lists_kept : (s : NodeState) (tx : TxId) (e : TxEntry) (awaited : List NodeId) (backups : List Share) → R s (after_advance_tx_in s tx e awaited backups)
+  pub near_on_lists_kept : (s : NodeState) (tx : TxId) (e : TxEntry) (awaited : List NodeId) (backups : List Share) →
+      R s (after_advance_tx_in s tx e awaited backups)
   near_on_lists_kept s tx e [] [] = phase_over_kept s tx e e.state
   near_on_lists_kept s tx e [] (b ∷ bs) = kit.nothing s
   near_on_lists_kept s tx e (a ∷ more) backups = kit.nothing s
@@ -75,4 +76,5 @@ module _ (R : NodeState → NodeState → Type 0) (all : ClosedUnderAllSteps R) 
       kit.andthen s shared (after_single_if_drained second) (shares_on_kept R kit s (own_txs s))
       (kit.andthen shared first (after_single_if_drained second) (near_on_kept R kit shared)
       (kit.andthen first started (after_single_if_drained second) (starts_all_kept R kit first)
-      (kit.andthen started second (after_single_if_drained second) (near_on_kept R kit started) (single_if_drained_kept second))))
+      (kit.andthen started second (after_single_if_drained second) (near_on_kept R kit started)
+      (single_if_drained_kept second))))

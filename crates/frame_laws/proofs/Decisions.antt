@@ -29,7 +29,8 @@ module _ (R : NodeState → NodeState → Type 0) (kit : ClosedUnderSteps R) whe
   decides_for_kept s tx commit (Some e) =
       kit.andthen s _ _ (takes_decision_kept s tx commit)
       (kit.andthen _ _ _ (kit.noting (with_decision s tx commit) (note.Decide tx commit) refl refl refl)
-      (kit.sent_all (with_note (with_decision s tx commit) (note.Decide tx commit)) (decision_outs s tx commit e) (decision_plain s tx commit e)))
+      (kit.sent_all (with_note (with_decision s tx commit) (note.Decide tx commit)) (decision_outs s tx commit e)
+      (decision_plain s tx commit e)))
 
   pub decides_kept : (s : NodeState) (tx : TxId) (commit : Bool) → R s (after_decide s tx commit)
   decides_kept s tx commit = decides_for_kept s tx commit (entry_of s tx)
@@ -49,7 +50,8 @@ module _ (R : NodeState → NodeState → Type 0) (kit : ClosedUnderSteps R) whe
   pub tells_kept : (s : NodeState) (tx : TxId) (f : Fault) (c : Command) → R s (after_tell s tx f c)
   tells_kept s tx f c =
       let gone = without_tx s tx in
-      kit.andthen s gone _ (without_tx_kept s tx) (on_session_state_kept R kit gone tx.session (session_state_after_fault f c) (session_state_of gone tx.session))
+      kit.andthen s gone _ (without_tx_kept s tx) (on_session_state_kept R kit gone tx.session (session_state_after_fault f c)
+      (session_state_of gone tx.session))
 
   pub keeps_fault_kept : (s : NodeState) (tx : TxId) → R s (with_fault_kept s tx)
   keeps_fault_kept s tx = on_entry_kept R kit s tx (λ (e : TxEntry). record e { state = state.Ended }) (entry_of s tx)
@@ -66,13 +68,20 @@ module _ (R : NodeState → NodeState → Type 0) (kit : ClosedUnderSteps R) whe
   closes_kept s tx a =
       let gone = without_tx s tx in
       kit.andthen s gone _ (without_tx_kept s tx)
-      (on_session_state_kept R kit gone tx.session (λ (d : SessionState). record d { tx = None; block = false; ready = Some a }) (session_state_of gone tx.session))
+      (on_session_state_kept R kit gone tx.session (λ (d : SessionState). record d {
+        tx = None;
+        block = false;
+        ready =
+            Some a;
+      }) (session_state_of gone tx.session))
 
-  pub ends_kept : (s : NodeState) (tx : TxId) (st : TxState) (outcome : Option Answer) (f : Option Fault) → R s (after_end_tx s tx st outcome f)
+  pub ends_kept : (s : NodeState) (tx : TxId) (st : TxState) (outcome : Option Answer) (f : Option Fault) →
+      R s (after_end_tx s tx st outcome f)
   ends_kept s tx st outcome None = closes_kept s tx (closing_answer st outcome)
   ends_kept s tx st outcome (Some f) = fault_ended_kept s tx f (session_state_of s tx.session)
 
-  pub undecided_with_kept : (s : NodeState) (tx : TxId) (lost : NodeId) (primaries : List NodeId) → R s (after_left_undecided_with s tx lost primaries)
+  pub undecided_with_kept : (s : NodeState) (tx : TxId) (lost : NodeId) (primaries : List NodeId) →
+      R s (after_left_undecided_with s tx lost primaries)
   undecided_with_kept s tx lost primaries =
       either_kept R kit s _ _ (has_node primaries lost) (fails_kept s tx (fault.NodeLost lost)) (kit.nothing s)
 
@@ -84,9 +93,11 @@ module _ (R : NodeState → NodeState → Type 0) (kit : ClosedUnderSteps R) whe
 
   pub decided_left_kept : (s : NodeState) (tx : TxId) (lost : NodeId) (e : TxEntry) → R s (after_left_decided s tx lost e)
   decided_left_kept s tx lost e =
-      kit.andthen s _ _ (leaves_entry_kept s tx lost) (kit.sent_all (with_entry_left s tx lost) (outs_after_left s tx lost e) (left_plain s tx lost e))
+      kit.andthen s _ _ (leaves_entry_kept s tx lost) (kit.sent_all (with_entry_left s tx lost) (outs_after_left s tx lost e)
+      (left_plain s tx lost e))
 
-  pub left_in_state_kept : (s : NodeState) (tx : TxId) (lost : NodeId) (e : TxEntry) (st : TxState) → R s (after_left_in_state s tx lost e st)
+  pub left_in_state_kept : (s : NodeState) (tx : TxId) (lost : NodeId) (e : TxEntry) (st : TxState) →
+      R s (after_left_in_state s tx lost e st)
   left_in_state_kept s tx lost e state.Searching = kit.nothing s
   left_in_state_kept s tx lost e state.Committing = decided_left_kept s tx lost e
   left_in_state_kept s tx lost e state.RollingBack = decided_left_kept s tx lost e
@@ -100,7 +111,8 @@ module _ (R : NodeState → NodeState → Type 0) (kit : ClosedUnderSteps R) whe
   pub left_for_each_kept : (s : NodeState) (lost : NodeId) (txs : List TxId) → R s (after_left_for_each s lost txs)
   left_for_each_kept s lost [] = kit.nothing s
   left_for_each_kept s lost (tx ∷ txs) =
-      kit.andthen s _ _ (left_for_tx_kept s tx lost (entry_of s tx)) (left_for_each_kept (after_left_for_tx s tx lost (entry_of s tx)) lost txs)
+      kit.andthen s _ _ (left_for_tx_kept s tx lost (entry_of s tx))
+      (left_for_each_kept (after_left_for_tx s tx lost (entry_of s tx)) lost txs)
 
   pub near_side_left_kept : (s : NodeState) (lost : NodeId) → R s (after_left_at_starter s lost)
   near_side_left_kept s lost = left_for_each_kept s lost (txs_of s)

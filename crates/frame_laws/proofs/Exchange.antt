@@ -42,13 +42,15 @@ module _ (R : NodeState → NodeState → Type 0) (all : ClosedUnderAllSteps R) 
     near = [];
     readers = [];
     shares = without_each tx_cmp s.shares (keys_where (λ (e : TxId × OwnShare). is_kept_commit e.1.state) s.shares);
-    backups = without_each backup_cmp s.backups (keys_where (λ (e : BackupName × BackupShare). is_kept_commit e.1.state) s.backups);
+    backups = without_each backup_cmp s.backups (keys_where (λ (e : BackupName × BackupShare). is_kept_commit e.1.state)
+        s.backups);
     complete = [];
     claims = [];
   }
 
   pub installs_kept : (s : NodeState) (m : PartMap) → R s (after_install s m)
-  installs_kept s m = kit.andthen s (cleared s m) (with_note (cleared s m) (note.Install m)) (all.changes s (cleared s m) refl refl refl refl refl refl)
+  installs_kept s m = kit.andthen s (cleared s m) (with_note (cleared s m) (note.Install m))
+      (all.changes s (cleared s m) refl refl refl refl refl refl)
       (all.notes (cleared s m) (note.Install m) refl refl)
 
   -- Opening.
@@ -61,8 +63,10 @@ module _ (R : NodeState → NodeState → Type 0) (all : ClosedUnderAllSteps R) 
       let opening : NodeState = record s { opened = Some top } in
       let noted : NodeState = with_note opening (note.Opened top) in
       kit.andthen s noted (after_send_demands (after_start_all noted))
-      (kit.andthen s opening noted (all.changes s opening refl refl refl refl refl refl) (all.notes opening (note.Opened top) refl refl))
-      (kit.andthen noted (after_start_all noted) (after_send_demands (after_start_all noted)) (starts_all_kept R kit noted) (demands_kept (after_start_all noted)))
+      (kit.andthen s opening noted (all.changes s opening refl refl refl refl refl refl)
+      (all.notes opening (note.Opened top) refl refl))
+      (kit.andthen noted (after_start_all noted) (after_send_demands (after_start_all noted)) (starts_all_kept R kit noted)
+      (demands_kept (after_start_all noted)))
 
   -- The coordinator.
 
@@ -71,17 +75,20 @@ module _ (R : NodeState → NodeState → Type 0) (all : ClosedUnderAllSteps R) 
       let over : NodeState = record s { exchange = None } in
       let told : NodeState = with_outs over (outs_to (others_seen s) (msg.Opens top)) in
       kit.andthen s told (after_opens told top)
-      (kit.andthen s over told (all.changes s over refl refl refl refl refl refl) (all.sends over (outs_to (others_seen s) (msg.Opens top))))
+      (kit.andthen s over told (all.changes s over refl refl refl refl refl refl)
+      (all.sends over (outs_to (others_seen s) (msg.Opens top))))
       (opens_row_kept told top)
 
   pub opens_if_all_kept : (s : NodeState) (found : Option Exchange) → R s (after_open_if_all s found)
   opens_if_all_kept s None = kit.nothing s
-  opens_if_all_kept s (Some x) = either_kept R kit s (after_open_for_all s x.top) s (all_installed s.members x.installed) (opens_for_all_kept s x.top) (kit.nothing s)
+  opens_if_all_kept s (Some x) = either_kept R kit s (after_open_for_all s x.top) s (all_installed s.members x.installed)
+      (opens_for_all_kept s x.top) (kit.nothing s)
 
   pub counts_kept : (s : NodeState) (x : Exchange) → R s (after_count s x)
   counts_kept s x =
       let here : NodeState = record s { exchange = Some x } in
-      kit.andthen s here (after_open_if_all here (Some x)) (all.changes s here refl refl refl refl refl refl) (opens_if_all_kept here (Some x))
+      kit.andthen s here (after_open_if_all here (Some x)) (all.changes s here refl refl refl refl refl refl)
+      (opens_if_all_kept here (Some x))
 
   pub without_singles_kept : (s : NodeState) (top : TopVer) → R s (without_singles s top)
   without_singles_kept s top = all.changes s (without_singles s top) refl refl refl refl refl refl
@@ -94,26 +101,34 @@ module _ (R : NodeState → NodeState → Type 0) (all : ClosedUnderAllSteps R) 
       let own : Exchange = record { top = m.top; installed = s.me ∷ [] } in
       kit.andthen s there (after_count told own)
       (kit.andthen s fewer there (without_singles_kept s m.top) (installs_kept fewer m))
-      (kit.andthen there told (after_count told own) (all.sends there (outs_to (others_seen s) (msg.Full m))) (counts_kept told own))
+      (kit.andthen there told (after_count told own) (all.sends there (outs_to (others_seen s) (msg.Full m)))
+      (counts_kept told own))
 
   pub computes_if_all_kept : (s : NodeState) → R s (after_compute_if_all s)
-  computes_if_all_kept s = either_kept R kit s (after_compute s (next_map_seen s)) s (may_compute s) (computes_kept s (next_map_seen s)) (kit.nothing s)
+  computes_if_all_kept s = either_kept R kit s (after_compute s (next_map_seen s)) s (may_compute s)
+      (computes_kept s (next_map_seen s)) (kit.nothing s)
 
-  pub single_row_kept : (s : NodeState) (from : NodeId) (top : TopVer) (m : Option PartMap) (complete : List ℕ) → R s (after_single s from top m complete)
+  pub single_row_kept : (s : NodeState) (from : NodeId) (top : TopVer) (m : Option PartMap) (complete : List ℕ) →
+      R s (after_single s from top m complete)
   single_row_kept s from top m complete =
       let here : NodeState = record s {
         singles = s.singles ++ record { from = from; top = top; map = m; complete = complete } ∷ [];
       } in
-      kit.andthen s here (after_compute_if_all here) (all.changes s here refl refl refl refl refl refl) (computes_if_all_kept here)
+      kit.andthen s here (after_compute_if_all here) (all.changes s here refl refl refl refl refl refl)
+      (computes_if_all_kept here)
 
   pub full_row_kept : (s : NodeState) (from : NodeId) (m : PartMap) → R s (after_full s from m)
-  full_row_kept s from m = either_kept R kit s (with_out (after_install s m) from (msg.Installed m.top)) s (is_newer_map m s.installed)
-      (kit.andthen s (after_install s m) (with_out (after_install s m) from (msg.Installed m.top)) (installs_kept s m) (all.sends (after_install s m) (record { to = from; msg = msg.Installed m.top } ∷ [])))
+  full_row_kept s from m = either_kept R kit s (with_out (after_install s m) from (msg.Installed m.top)) s
+      (is_newer_map m s.installed)
+      (kit.andthen s (after_install s m) (with_out (after_install s m) from (msg.Installed m.top)) (installs_kept s m)
+      (all.sends (after_install s m) (record { to = from; msg = msg.Installed m.top } ∷ [])))
       (kit.nothing s)
 
-  pub counts_installed_kept : (s : NodeState) (from : NodeId) (top : TopVer) (found : Option Exchange) → R s (after_count_installed s from top found)
+  pub counts_installed_kept : (s : NodeState) (from : NodeId) (top : TopVer) (found : Option Exchange) →
+      R s (after_count_installed s from top found)
   counts_installed_kept s from top None = kit.nothing s
-  counts_installed_kept s from top (Some x) = let more : Exchange = record x { installed = with_member node_cmp x.installed from } in
+  counts_installed_kept s from top (Some x) = let more : Exchange =
+      record x { installed = with_member node_cmp x.installed from } in
       either_kept R kit s (after_count s more) s (same_top x.top top) (counts_kept s more) (kit.nothing s)
 
   pub installed_row_kept : (s : NodeState) (from : NodeId) (top : TopVer) → R s (after_installed s from top)

@@ -31,7 +31,8 @@ both_own (x ∷ xs) ys first second =
     ] first
 
 -- a change that touches neither the records, nor the outbox, nor the node's number, count and clock
-pub aside : (before after : NodeState) → after.me ≡ before.me → after.acts ≡ before.acts → after.now ≡ before.now → after.noted ≡ before.noted → after.outbox ≡ before.outbox → OnlyAppends before after
+pub aside : (before after : NodeState) → after.me ≡ before.me → after.acts ≡ before.acts → after.now ≡ before.now →
+    after.noted ≡ before.noted → after.outbox ≡ before.outbox → OnlyAppends before after
 aside before after me acts now noted outbox = record {
   same_me = me;
   same_acts = acts;
@@ -53,10 +54,12 @@ andthen a b c first second = record {
   same_acts = second.same_acts ∙ first.same_acts;
   same_now = second.same_now ∙ first.same_now;
   more_noted = first.more_noted ++ second.more_noted;
-  noted_is = second.noted_is ∙ ap (λ rs. rs ++ second.more_noted) first.noted_is ∙ append_twice a.noted first.more_noted second.more_noted;
+  noted_is = second.noted_is ∙ ap (λ rs. rs ++ second.more_noted) first.noted_is
+      ∙ append_twice a.noted first.more_noted second.more_noted;
   own = both_own first.more_noted second.more_noted first.own second.own;
   more_sent = first.more_sent ++ second.more_sent;
-  outbox_is = second.outbox_is ∙ ap (λ os. os ++ second.more_sent) first.outbox_is ∙ append_twice a.outbox first.more_sent second.more_sent;
+  outbox_is = second.outbox_is ∙ ap (λ os. os ++ second.more_sent) first.outbox_is
+      ∙ append_twice a.outbox first.more_sent second.more_sent;
 }
 
 noting_extends : (s : NodeState) (r : Rec) → is_own r ≡ true → OnlyAppends s (with_note s r)
@@ -86,14 +89,21 @@ sent_all_extends s outs = record {
 enqueued_extends : (s : NodeState) (tx : TxId) (key : Key) → OnlyAppends s (with_queued s tx key)
 enqueued_extends s tx key = aside s (with_queued s tx key) refl refl refl refl refl
 
-grants_extends : (s : NodeState) (to : NodeId) (tx : TxId) (top : TopVer) (key : Key) → OnlyAppends s (after_grant s to tx top key)
-grants_extends s to tx top key = andthen s (with_note s (note.Grant tx top key)) (after_grant s to tx top key) (noting_extends s (note.Grant tx top key) refl) (sent_all_extends (with_note s (note.Grant tx top key)) _)
+grants_extends : (s : NodeState) (to : NodeId) (tx : TxId) (top : TopVer) (key : Key) →
+    OnlyAppends s (after_grant s to tx top key)
+grants_extends s to tx top key = andthen s (with_note s (note.Grant tx top key)) (after_grant s to tx top key)
+    (noting_extends s (note.Grant tx top key) refl) (sent_all_extends (with_note s (note.Grant tx top key)) _)
 
-placed_extends : (s : NodeState) (from : NodeId) (tx : TxId) (top : TopVer) (key : Key) (owner : Option TxId) → OnlyAppends s (after_lock_behind s from tx top key owner)
-placed_extends s from tx top key None = andthen s (with_queued s tx key) (after_grant (with_queued s tx key) from tx top key) (enqueued_extends s tx key) (grants_extends (with_queued s tx key) from tx top key)
-placed_extends s from tx top key (Some owner) = andthen s (with_queued s tx key) (with_note (with_queued s tx key) (note.Queue tx key owner)) (enqueued_extends s tx key) (noting_extends (with_queued s tx key) (note.Queue tx key owner) refl)
+placed_extends : (s : NodeState) (from : NodeId) (tx : TxId) (top : TopVer) (key : Key) (owner : Option TxId) →
+    OnlyAppends s (after_lock_behind s from tx top key owner)
+placed_extends s from tx top key None = andthen s (with_queued s tx key) (after_grant (with_queued s tx key) from tx top key)
+    (enqueued_extends s tx key) (grants_extends (with_queued s tx key) from tx top key)
+placed_extends s from tx top key (Some owner) =
+    andthen s (with_queued s tx key) (with_note (with_queued s tx key) (note.Queue tx key owner)) (enqueued_extends s tx key)
+    (noting_extends (with_queued s tx key) (note.Queue tx key owner) refl)
 
-passed_on_extends : (s : NodeState) (key : Key) (was_owner : Bool) (owner : Option TxId) → OnlyAppends s (after_pass_on s key was_owner owner)
+passed_on_extends : (s : NodeState) (key : Key) (was_owner : Bool) (owner : Option TxId) →
+    OnlyAppends s (after_pass_on s key was_owner owner)
 passed_on_extends s key true (Some next) = grants_extends s next.node next (installed_top s) key
 passed_on_extends s key true None = nothing s
 passed_on_extends s key false owner = nothing s
@@ -111,12 +121,14 @@ pub extending_plain : ClosedUnderSteps OnlyAppends
 extending_plain = record {
   nothing = nothing;
   andthen = andthen;
-  aside = λ before after same. aside before after (ap (λ (c : PlainFrame). c.me) same) (ap (λ (c : PlainFrame). c.acts) same) (ap (λ (c : PlainFrame). c.now) same) (ap (λ (c : PlainFrame). c.noted) same) (ap (λ (c : PlainFrame). c.outbox) same);
+  aside = λ before after same. aside before after (ap (λ (c : PlainFrame). c.me) same) (ap (λ (c : PlainFrame). c.acts) same)
+      (ap (λ (c : PlainFrame). c.now) same) (ap (λ (c : PlainFrame). c.noted) same) (ap (λ (c : PlainFrame). c.outbox) same);
   noting = λ s r own lockless other. noting_extends s r own;
   sent_all = λ s outs plain. sent_all_extends s outs;
   placed = λ s from tx top key. placed_extends s from tx top key (owner_at s key);
   released = released_extends;
-  owned = λ s tx top key free. andthen s (with_queued s tx key) (with_note (with_queued s tx key) (note.Grant tx top key)) (enqueued_extends s tx key) (noting_extends (with_queued s tx key) (note.Grant tx top key) refl);
+  owned = λ s tx top key free. andthen s (with_queued s tx key) (with_note (with_queued s tx key) (note.Grant tx top key))
+      (enqueued_extends s tx key) (noting_extends (with_queued s tx key) (note.Grant tx top key) refl);
 }
 
 -- those of the exchange too

@@ -18,7 +18,8 @@ use Rattle.frame_laws.specs.Kits.{ClosedUnderSteps}
 use Rattle.frame_laws.proofs.Kits.{either_kept, sent_kept}
 
 module _ (R : NodeState → NodeState → Type 0) (kit : ClosedUnderSteps R) where
-  pub demand_row_kept : (s : NodeState) (from : NodeId) (top : TopVer) (part : ℕ) (after : Option Key) → R s (after_demand s from top part after)
+  pub demand_row_kept : (s : NodeState) (from : NodeId) (top : TopVer) (part : ℕ) (after : Option Key) →
+      R s (after_demand s from top part after)
   demand_row_kept s from top part after =
       let copy : Copy = copy_at s.stores part in
       let m : Message = msg.Supply top part (batch_of copy after batch_size) (is_last_batch copy after batch_size) in
@@ -38,15 +39,19 @@ module _ (R : NodeState → NodeState → Type 0) (kit : ClosedUnderSteps R) whe
       } in
       kit.andthen s here (after_claim_if_all here top) (kit.aside s here refl) (claims_if_all_kept here top)
 
-  pub supplied_to_kept : (s : NodeState) (from : NodeId) (top : TopVer) (part : ℕ) (entries : List Stored) (last : Bool) → R s (after_supplied s from top part entries last)
+  pub supplied_to_kept : (s : NodeState) (from : NodeId) (top : TopVer) (part : ℕ) (entries : List Stored) (last : Bool) →
+      R s (after_supplied s from top part entries last)
   supplied_to_kept s from top part entries true = completes_kept s top part
   supplied_to_kept s from top part entries false = sent_kept R kit s from (msg.Demand top part (last_key entries)) refl
 
-  pub supply_row_kept : (s : NodeState) (from : NodeId) (top : TopVer) (part : ℕ) (entries : List Stored) (last : Bool) → R s (after_supply s from top part entries last)
+  pub supply_row_kept : (s : NodeState) (from : NodeId) (top : TopVer) (part : ℕ) (entries : List Stored) (last : Bool) →
+      R s (after_supply s from top part entries last)
   supply_row_kept s from top part entries last =
       let here : NodeState = with_copy s part (copy_after_supply (copy_at s.stores part) entries) in
       either_kept R kit s (after_supplied here from top part entries last) s (is_installed s top)
-      (kit.andthen s here (after_supplied here from top part entries last) (with_copy_kept s part (copy_after_supply (copy_at s.stores part) entries)) (supplied_to_kept here from top part entries last))
+      (kit.andthen s here (after_supplied here from top part entries last)
+      (with_copy_kept s part (copy_after_supply (copy_at s.stores part) entries))
+      (supplied_to_kept here from top part entries last))
       (kit.nothing s)
 
   pub complete_row_kept : (s : NodeState) (from : NodeId) (top : TopVer) → R s (after_complete s from top)

@@ -22,7 +22,8 @@ use Rattle.frame_laws.proofs.Owners.{free_here, still_free}
 use Rattle.part_model.specs.Queues.{first_blocked, other_owner}
 
 module _ (R : NodeState → NodeState → Type 0) (kit : ClosedUnderSteps R) where
-  pub lock_row_kept : (s : NodeState) (from : NodeId) (tx : TxId) (top : TopVer) (key : Key) → R s (after_lock s from tx top key)
+  pub lock_row_kept : (s : NodeState) (from : NodeId) (tx : TxId) (top : TopVer) (key : Key) →
+      R s (after_lock s from tx top key)
   lock_row_kept = kit.placed
 
   pub released_kept : (s : NodeState) (tx : TxId) (key : Key) → R s (after_release s tx key)
@@ -39,7 +40,8 @@ module _ (R : NodeState → NodeState → Type 0) (kit : ClosedUnderSteps R) whe
   releases_kept s tx = released_all_kept s tx (keys_queued_for s.queues tx)
 
   -- the keys are owned by no other transaction
-  pub owns_each_kept : (s : NodeState) (tx : TxId) (top : TopVer) (ws : List Wanted) → first_blocked s.queues (wanted_keys ws) tx ≡ None → R s (after_own_each s tx top ws)
+  pub owns_each_kept : (s : NodeState) (tx : TxId) (top : TopVer) (ws : List Wanted) →
+      first_blocked s.queues (wanted_keys ws) tx ≡ None → R s (after_own_each s tx top ws)
   owns_each_kept s tx top [] free = kit.nothing s
   owns_each_kept s tx top (w ∷ ws) free =
       let next = with_note (with_queued s tx w.key) (note.Grant tx top w.key) in
@@ -57,8 +59,10 @@ module _ (R : NodeState → NodeState → Type 0) (kit : ClosedUnderSteps R) whe
       (reads_for_kept s from near key)
       (sent_kept R kit (with_reader_if s from near key) from (msg.GetOk tx key (found_at s key)) refl)
 
-  pub edges_row_kept : (s : NodeState) (from : NodeId) (tx : TxId) (round : ℕ) (txs : List TxId) → R s (after_edges s from tx round txs)
+  pub edges_row_kept : (s : NodeState) (from : NodeId) (tx : TxId) (round : ℕ) (txs : List TxId) →
+      R s (after_edges s from tx round txs)
   edges_row_kept s from tx round txs = let waits = edges_of s.queues txs in
-      kit.andthen s (with_note s (note.Waits tx round waits)) (with_out (with_note s (note.Waits tx round waits)) from (msg.EdgesOk tx round s.acts waits))
+      kit.andthen s (with_note s (note.Waits tx round waits)) (with_out (with_note s (note.Waits tx round waits)) from
+      (msg.EdgesOk tx round s.acts waits))
       (kit.noting s (note.Waits tx round waits) refl refl refl)
       (sent_kept R kit (with_note s (note.Waits tx round waits)) from (msg.EdgesOk tx round s.acts waits) refl)

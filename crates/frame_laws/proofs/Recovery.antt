@@ -43,13 +43,15 @@ module _ (R : NodeState → NodeState → Type 0) (kit : ClosedUnderSteps R) whe
   on_round_kept s f None = kit.nothing s
   on_round_kept s f (Some r) = kit.aside s (record s { round = Some (f r) }) refl
 
-  pub awaits_verdict_kept : (s : NodeState) (tx : TxId) (nodes : List NodeId) (backups : List Share) → R s (with_verdict_awaited s tx nodes backups)
+  pub awaits_verdict_kept : (s : NodeState) (tx : TxId) (nodes : List NodeId) (backups : List Share) →
+      R s (with_verdict_awaited s tx nodes backups)
   awaits_verdict_kept s tx nodes backups = on_round_kept s (λ (r : Round). record r {
     finishes = with_finish_waits r.finishes tx nodes;
     backups = with_backup_waits r.backups tx backups;
   }) s.round
 
-  pub gives_verdict_kept : (s : NodeState) (tx : TxId) (commit : Bool) (shares : List Share) (nodes : List NodeId) → R s (after_give_verdict s tx commit shares nodes)
+  pub gives_verdict_kept : (s : NodeState) (tx : TxId) (commit : Bool) (shares : List Share) (nodes : List NodeId) →
+      R s (after_give_verdict s tx commit shares nodes)
   gives_verdict_kept s tx commit shares nodes =
       let kept : NodeState = record s { verdicts = put tx_cmp s.verdicts tx commit } in
       let noted : NodeState = with_note kept (note.Decide tx commit) in
@@ -59,15 +61,21 @@ module _ (R : NodeState → NodeState → Type 0) (kit : ClosedUnderSteps R) whe
       kit.andthen s noted (with_outs awaiting outs)
       (kit.andthen s kept noted (kit.aside s kept refl) (kit.noting kept (note.Decide tx commit) refl refl refl))
       (kit.andthen noted awaiting (with_outs awaiting outs)
-      (awaits_verdict_kept noted tx (finish_nodes s shares nodes) (orphaned_shares s shares)) (kit.sent_all awaiting outs (both_plain (outs_to (finish_nodes s shares nodes) (msg.Finish tx commit)) _ (to_plain (finish_nodes s shares nodes) (msg.Finish tx commit) refl) (lost_plain s tx commit shares (lost_among s (primaries_of shares))))))
+      (awaits_verdict_kept noted tx (finish_nodes s shares nodes) (orphaned_shares s shares))
+      (kit.sent_all awaiting outs (both_plain (outs_to (finish_nodes s shares nodes) (msg.Finish tx commit)) _
+      (to_plain (finish_nodes s shares nodes) (msg.Finish tx commit) refl)
+      (lost_plain s tx commit shares (lost_among s (primaries_of shares))))))
 
-  pub judges_kept : (s : NodeState) (tx : TxId) (members : List Member) (orphans : List Orphan) (nodes : List NodeId) → R s (after_judge s tx members orphans nodes)
+  pub judges_kept : (s : NodeState) (tx : TxId) (members : List Member) (orphans : List Orphan) (nodes : List NodeId) →
+      R s (after_judge s tx members orphans nodes)
   judges_kept s tx members orphans nodes =
-      either_kept R kit s s (after_give_verdict s tx (verdict (at tx_cmp s.verdicts tx) orphans members) (shares_named orphans) nodes) (is_settled orphans)
+      either_kept R kit s s (after_give_verdict s tx (verdict (at tx_cmp s.verdicts tx) orphans members)
+      (shares_named orphans) nodes) (is_settled orphans)
       (kit.nothing s)
       (gives_verdict_kept s tx (verdict (at tx_cmp s.verdicts tx) orphans members) (shares_named orphans) nodes)
 
-  pub judges_each_kept : (s : NodeState) (members : List Member) (reports : List Report) (txs : List TxId) → R s (after_judge_each s members reports txs)
+  pub judges_each_kept : (s : NodeState) (members : List Member) (reports : List Report) (txs : List TxId) →
+      R s (after_judge_each s members reports txs)
   judges_each_kept s members reports [] = kit.nothing s
   judges_each_kept s members reports (tx ∷ txs) =
       let judged : NodeState = after_judge s tx members (orphans_for tx reports) (lockers tx reports) in
@@ -77,24 +85,28 @@ module _ (R : NodeState → NodeState → Type 0) (kit : ClosedUnderSteps R) whe
   pub has_acted_kept : (s : NodeState) → R s (with_round_acted s)
   has_acted_kept s = on_round_kept s (λ (r : Round). record r { acted = true }) s.round
 
-  pub acts_on_round_kept : (s : NodeState) (members : List Member) (reports : List Report) → R s (after_act_on_round s members reports)
+  pub acts_on_round_kept : (s : NodeState) (members : List Member) (reports : List Report) →
+      R s (after_act_on_round s members reports)
   acts_on_round_kept s members reports =
       kit.andthen s (with_round_acted s) (after_judge_each (with_round_acted s) members reports (names_of reports))
       (has_acted_kept s) (judges_each_kept (with_round_acted s) members reports (names_of reports))
 
   pub recovers_with_kept : (s : NodeState) (r : Round) (reports : List Report) → R s (after_recover_with s r reports)
-  recovers_with_kept s r reports = either_kept R kit s (after_act_on_round s r.members reports) s (all_reported r.members reports)
+  recovers_with_kept s r reports = either_kept R kit s (after_act_on_round s r.members reports) s
+      (all_reported r.members reports)
       (acts_on_round_kept s r.members reports) (kit.nothing s)
 
   pub recovers_if_all_kept : (s : NodeState) (found : Option Round) → R s (after_recover_if_all s found)
   recovers_if_all_kept s None = kit.nothing s
-  recovers_if_all_kept s (Some r) = either_kept R kit s (after_recover_with s r (reports_for s.reports r.place)) s (is_recoverer s r && not r.acted)
+  recovers_if_all_kept s (Some r) = either_kept R kit s (after_recover_with s r (reports_for s.reports r.place)) s
+      (is_recoverer s r && not r.acted)
       (recovers_with_kept s r (reports_for s.reports r.place)) (kit.nothing s)
 
   pub reports_more_kept : (s : NodeState) (r : Report) → R s (with_report s r)
   reports_more_kept s r = kit.aside s (with_report s r) refl
 
-  pub orphans_row_kept : (s : NodeState) (from : NodeId) (round : ℕ) (list : List Orphan) → R s (after_orphans s from round list)
+  pub orphans_row_kept : (s : NodeState) (from : NodeId) (round : ℕ) (list : List Orphan) →
+      R s (after_orphans s from round list)
   orphans_row_kept s from round list = let here : NodeState = record s {
     reports = s.reports ++ record { round = round; from = from; list = list } ∷ [];
   } in kit.andthen s here (after_recover_if_all here here.round) (kit.aside s here refl) (recovers_if_all_kept here here.round)
@@ -106,7 +118,8 @@ module _ (R : NodeState → NodeState → Type 0) (kit : ClosedUnderSteps R) whe
     finishes = without_member finish_wait_cmp r.finishes (record { tx = tx; node = from });
   }) s.round
 
-  pub recovery_backup_finished_kept : (s : NodeState) (from : NodeId) (tx : TxId) (primary : NodeId) → R s (after_backup_finished_at_recoverer s from tx primary)
+  pub recovery_backup_finished_kept : (s : NodeState) (from : NodeId) (tx : TxId) (primary : NodeId) →
+      R s (after_backup_finished_at_recoverer s from tx primary)
   recovery_backup_finished_kept s from tx primary = on_round_kept s (λ (r : Round). record r {
     backups = without_member backup_wait_cmp r.backups (record { tx = tx; primary = primary; holder = from });
   }) s.round

@@ -19,7 +19,8 @@ use Rattle.frame_laws.proofs.Kits.{either_kept}
 
 module _ (R : NodeState → NodeState → Type 0) (kit : ClosedUnderSteps R) where
   pub fixes_version_kept : (s : NodeState) (tx : TxId) (top : TopVer) → R s (with_version s tx top)
-  fixes_version_kept s tx top = on_entry_kept R kit s tx (λ (e : TxEntry). record e { top = Some top; state = state.Active }) (entry_of s tx)
+  fixes_version_kept s tx top = on_entry_kept R kit s tx (λ (e : TxEntry). record e { top = Some top; state = state.Active })
+      (entry_of s tx)
 
   pub starts_kept : (s : NodeState) (tx : TxId) (block : Bool) (c : Command) → R s (after_start s tx block c)
   starts_kept s tx block c =
@@ -27,7 +28,8 @@ module _ (R : NodeState → NodeState → Type 0) (kit : ClosedUnderSteps R) whe
       (kit.andthen _ _ _ (kit.noting (with_version s tx s.seen) (note.Start tx s.seen) refl refl refl)
       (does_kept R kit (with_note (with_version s tx s.seen) (note.Start tx s.seen)) tx s.seen block c))
 
-  pub start_command_kept : (s : NodeState) (tx : TxId) (block : Bool) (c : Option Command) → R s (after_start_command s tx block c)
+  pub start_command_kept : (s : NodeState) (tx : TxId) (block : Bool) (c : Option Command) →
+      R s (after_start_command s tx block c)
   start_command_kept s tx block None = kit.nothing s
   start_command_kept s tx block (Some c) = either_kept R kit s _ _ (takes_version c) (starts_kept s tx block c) (kit.nothing s)
 
@@ -50,7 +52,8 @@ module _ (R : NodeState → NodeState → Type 0) (kit : ClosedUnderSteps R) whe
   pub start_each_kept : (s : NodeState) (sessions : List ℕ) → R s (after_start_each s sessions)
   start_each_kept s [] = kit.nothing s
   start_each_kept s (session ∷ more) =
-      kit.andthen s _ _ (start_session_state_kept s (session_state_of s session)) (start_each_kept (after_start_session s (session_state_of s session)) more)
+      kit.andthen s _ _ (start_session_state_kept s (session_state_of s session))
+      (start_each_kept (after_start_session s (session_state_of s session)) more)
 
   pub starts_all_kept : (s : NodeState) → R s (after_start_all s)
   starts_all_kept s = either_kept R kit s _ _ (is_open s s.opened) (start_each_kept s (sessions_of s)) (kit.nothing s)

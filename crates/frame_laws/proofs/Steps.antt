@@ -18,10 +18,12 @@ use Rattle.frame_laws.specs.Kits.{ClosedUnderSteps, is_plain_message}
 use Rattle.frame_laws.proofs.Kits.{sent_kept}
 
 module _ (R : NodeState → NodeState → Type 0) (kit : ClosedUnderSteps R) where
-  pub with_session_state_kept : (s : NodeState) (session : ℕ) (session_state : SessionState) → R s (with_session_state s session session_state)
+  pub with_session_state_kept : (s : NodeState) (session : ℕ) (session_state : SessionState) →
+      R s (with_session_state s session session_state)
   with_session_state_kept s session session_state = kit.aside s (with_session_state s session session_state) refl
 
-  pub on_session_state_kept : (s : NodeState) (session : ℕ) (f : SessionState → SessionState) (d : Option SessionState) → R s (on_session_state s session f d)
+  pub on_session_state_kept : (s : NodeState) (session : ℕ) (f : SessionState → SessionState) (d : Option SessionState) →
+      R s (on_session_state s session f d)
   on_session_state_kept s session f None = kit.nothing s
   on_session_state_kept s session f (Some session_state) = with_session_state_kept s session (f session_state)
 
@@ -36,18 +38,22 @@ module _ (R : NodeState → NodeState → Type 0) (kit : ClosedUnderSteps R) whe
   with_near_kept s key near = kit.aside s (with_near s key near) refl
 
   pub answered_kept : (s : NodeState) (session : ℕ) (a : Answer) → R s (with_answer_ready s session a)
-  answered_kept s session a = on_session_state_kept s session (λ (d : SessionState). record d { ready = Some a }) (session_state_of s session)
+  answered_kept s session a = on_session_state_kept s session (λ (d : SessionState). record d { ready = Some a })
+      (session_state_of s session)
 
   pub with_share_kept : (s : NodeState) (tx : TxId) (share : OwnShare) → R s (with_share s tx share)
   with_share_kept s tx share = kit.aside s (with_share s tx share) refl
 
-  pub on_share_kept : (s : NodeState) (tx : TxId) (f : OwnShare → OwnShare) (share : Option OwnShare) → R s (on_share s tx f share)
+  pub on_share_kept : (s : NodeState) (tx : TxId) (f : OwnShare → OwnShare) (share : Option OwnShare) →
+      R s (on_share s tx f share)
   on_share_kept s tx f None = kit.nothing s
   on_share_kept s tx f (Some share) = with_share_kept s tx (f share)
 
-  pub with_backup_kept : (s : NodeState) (tx : TxId) (primary : NodeId) (share : BackupShare) → R s (with_backup s tx primary share)
+  pub with_backup_kept : (s : NodeState) (tx : TxId) (primary : NodeId) (share : BackupShare) →
+      R s (with_backup s tx primary share)
   with_backup_kept s tx primary share = kit.aside s (with_backup s tx primary share) refl
 
-  pub sent_to_oldest_kept : (s : NodeState) (m : Message) (to : Option NodeId) → is_plain_message m ≡ true → R s (with_out_to_oldest s m to)
+  pub sent_to_oldest_kept : (s : NodeState) (m : Message) (to : Option NodeId) → is_plain_message m ≡ true →
+      R s (with_out_to_oldest s m to)
   sent_to_oldest_kept s m None plain = kit.nothing s
   sent_to_oldest_kept s m (Some oldest_in) plain = sent_kept R kit s oldest_in m plain

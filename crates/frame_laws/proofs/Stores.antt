@@ -15,13 +15,15 @@ module _ (R : NodeState → NodeState → Type 0) (kit : ClosedUnderSteps R) whe
   stored_kept s write = kit.aside s (with_stored s write) refl
 
   -- one write is done and noted
-  applied_kept : (s : NodeState) (tx : TxId) (top : TopVer) (primary : NodeId) (w : Stored) → R s (with_note (with_stored s w) (note.Apply tx top primary w.key w.value w.ver))
+  applied_kept : (s : NodeState) (tx : TxId) (top : TopVer) (primary : NodeId) (w : Stored) →
+      R s (with_note (with_stored s w) (note.Apply tx top primary w.key w.value w.ver))
   applied_kept s tx top primary w =
       kit.andthen s (with_stored s w) (with_note (with_stored s w) (note.Apply tx top primary w.key w.value w.ver))
       (stored_kept s w)
       (kit.noting (with_stored s w) (note.Apply tx top primary w.key w.value w.ver) refl refl refl)
 
-  pub applied_all_kept : (s : NodeState) (tx : TxId) (top : TopVer) (primary : NodeId) (ws : List Stored) → R s (after_apply_each s tx top primary ws)
+  pub applied_all_kept : (s : NodeState) (tx : TxId) (top : TopVer) (primary : NodeId) (ws : List Stored) →
+      R s (after_apply_each s tx top primary ws)
   applied_all_kept s tx top primary [] = kit.nothing s
   applied_all_kept s tx top primary (w ∷ ws) =
       let next = with_note (with_stored s w) (note.Apply tx top primary w.key w.value w.ver) in

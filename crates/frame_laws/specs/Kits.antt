@@ -95,16 +95,19 @@ pub record ClosedUnderSteps (R : NodeState → NodeState → Type 0) : Type 0 wh
   pub nothing : (s : NodeState) → R s s
   pub andthen : (a b c : NodeState) → R a b → R b c → R a c
   pub aside : (before after : NodeState) → plain_frame after ≡ plain_frame before → R before after
-  pub noting : (s : NodeState) (r : Rec) → is_own r ≡ true → is_lock r ≡ false → is_exchange r ≡ false → R s (steps.with_note s r)
+  pub noting : (s : NodeState) (r : Rec) → is_own r ≡ true → is_lock r ≡ false → is_exchange r ≡ false →
+      R s (steps.with_note s r)
   pub sent_all : (s : NodeState) (outs : List Out) → list_all is_plain_out outs ≡ true → R s (steps.with_outs s outs)
   -- a lock is granted or waited for; a place is left; an optimistic prepare owns a key that no other transaction owns
   pub placed : (s : NodeState) (from : NodeId) (tx : TxId) (top : TopVer) (key : Key) → R s (locks.after_lock s from tx top key)
   pub released : (s : NodeState) (tx : TxId) (key : Key) → R s (locks.after_release s tx key)
-  pub owned : (s : NodeState) (tx : TxId) (top : TopVer) (key : Key) → other_owner tx (locks.owner_at s key) ≡ None → R s (steps.with_note (locks.with_queued s tx key) (note.Grant tx top key))
+  pub owned : (s : NodeState) (tx : TxId) (top : TopVer) (key : Key) → other_owner tx (locks.owner_at s key) ≡ None →
+      R s (steps.with_note (locks.with_queued s tx key) (note.Grant tx top key))
 
 -- what all rows keep, those of the exchange too
 pub record ClosedUnderAllSteps (R : NodeState → NodeState → Type 0) : Type 0 where
   pub plain : ClosedUnderSteps R
-  pub changes : (before after : NodeState) → after.me ≡ before.me → after.acts ≡ before.acts → after.now ≡ before.now → after.noted ≡ before.noted → after.outbox ≡ before.outbox → after.queues ≡ before.queues → R before after
+  pub changes : (before after : NodeState) → after.me ≡ before.me → after.acts ≡ before.acts → after.now ≡ before.now →
+      after.noted ≡ before.noted → after.outbox ≡ before.outbox → after.queues ≡ before.queues → R before after
   pub notes : (s : NodeState) (r : Rec) → is_own r ≡ true → is_lock r ≡ false → R s (steps.with_note s r)
   pub sends : (s : NodeState) (outs : List Out) → R s (steps.with_outs s outs)

@@ -51,7 +51,12 @@ pub exact_txs : CmpEqualImpliesEq tx_cmp
 exact_txs a b tied =
     let parts = both_tied (node_cmp a.node b.node) _ tied in
     let rest = both_tied (nat_cmp a.session b.session) (nat_cmp a.number b.number) parts.1 in
-    (λ i. record { node = exact_nodes a.node b.node parts.0 i; session = exact_unsigned a.session b.session rest.0 i; number = exact_unsigned a.number b.number rest.1 i })
+    (λ i. record {
+      node = exact_nodes a.node b.node parts.0 i;
+      session = exact_unsigned a.session b.session rest.0 i;
+      number =
+          exact_unsigned a.number b.number rest.1 i;
+    })
 
 pub exact_keys : CmpEqualImpliesEq key_cmp
 exact_keys a b tied =
@@ -103,6 +108,8 @@ texts_exact (x ∷ s) (y ∷ t) h =
 
 pub same_key_true : (a b : Key) → same_key a b ≡ true → a ≡ b
 same_key_true a b h =
-    let cache : a.cache ≡ b.cache = eqb-true a.cache b.cache (first_so (nat_eq a.cache b.cache) (pointwise nat_eq a.text b.text) h) in
-    let text : a.text ≡ b.text = texts_exact a.text b.text (second_so (nat_eq a.cache b.cache) (pointwise nat_eq a.text b.text) h) in
+    let cache : a.cache ≡ b.cache =
+    eqb-true a.cache b.cache (first_so (nat_eq a.cache b.cache) (pointwise nat_eq a.text b.text) h) in
+    let text : a.text ≡ b.text =
+    texts_exact a.text b.text (second_so (nat_eq a.cache b.cache) (pointwise nat_eq a.text b.text) h) in
     (λ i. record { cache = cache i; text = text i })

@@ -51,13 +51,15 @@ abbrev pub is_started : Cache → Bool
 is_started cache = not cache.first && not cache.«data»
 
 abbrev pub good_cache : Cache → Bool
-good_cache cache = is_name cache.name && is_within 1 PARTITIONS cache.parts && nat_le cache.backups BACKUPS && nat_le cache.near NEAR_ENTRIES
+good_cache cache = is_name cache.name && is_within 1 PARTITIONS cache.parts && nat_le cache.backups BACKUPS
+    && nat_le cache.near NEAR_ENTRIES
 
 -- the caches of cache lines come first, then those of data lines, then the started ones
 abbrev pub in_order : List Cache → Bool
 in_order [] = true
 in_order (cache ∷ more) =
-    (has_cache_line cache || (has_data_line cache && not (list_any has_cache_line more)) || (is_started cache && list_all is_started more))
+    (has_cache_line cache || (has_data_line cache && not (list_any has_cache_line more))
+    || (is_started cache && list_all is_started more))
     && in_order more
 
 abbrev pub same_cache_name : Cache → Cache → Bool
@@ -114,7 +116,8 @@ stops n _ = false
 -- a cache may be stopped that has a cache line or was started in the steps before, once, but never cache 0
 abbrev pub can_stop : List Cache → List Step → ℕ → Bool
 can_stop caches before n =
-    not (n == 0) && (list_any has_cache_line (option_to_list (slice_get caches n)) || list_any (starts_cache n) before) && not (list_any (stops n) before)
+    not (n == 0) && (list_any has_cache_line (option_to_list (slice_get caches n)) || list_any (starts_cache n) before)
+    && not (list_any (stops n) before)
 
 -- a step names nodes that have a line or join, and stops what may be stopped
 abbrev pub good_step : List Cache → List Member → List Step → Step → Bool
@@ -244,7 +247,8 @@ same_session_name a b = bytes_eq a.name b.name
 -- at most 64 sessions, with names of their own
 abbrev pub good_sessions : Scenario → Bool
 good_sessions s =
-    nat_le (length s.sessions) SESSIONS && list_all (good_session s.caches (members s)) s.sessions && are_distinct same_session_name s.sessions
+    nat_le (length s.sessions) SESSIONS && list_all (good_session s.caches (members s)) s.sessions
+    && are_distinct same_session_name s.sessions
     && good_kinds (filter_map object_of (flat_map (λ session. session.commands) s.sessions))
 
 -- whether a scenario is good

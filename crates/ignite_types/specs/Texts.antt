@@ -36,7 +36,8 @@ first_bad allowed bytes = position (λ b. not (allowed b)) bytes
 -- the bytes as a text of at most `room` bytes, or the first fault
 abbrev pub text_of : ℕ → (ℕ → Bool) → List ℕ → Result (List ℕ) TextFault
 text_of room allowed bytes =
-    if length bytes == 0 then Err Empty else (if nat_lt room (length bytes) then Err TooLong else unless_bad (first_bad allowed bytes) bytes)
+    if length bytes == 0 then Err Empty else (if nat_lt room (length bytes) then Err TooLong else unless_bad
+    (first_bad allowed bytes) bytes)
 
 abbrev pub in_cache : ℕ → Result (List ℕ) TextFault → Result Key TextFault
 in_cache cache (Ok text) = Ok (record { cache = cache; text = text })

@@ -1,4 +1,5 @@
--- Each answer has its cause: where a refusal is due it is the answer, else the command is done as it is defined, or a fault that
+-- Each answer has its cause: where a refusal is due it is the answer, else the command is done as it is defined, or a fault
+-- that
 -- came on the way is told. Each fault has its cause, and plan steps are refused exactly where they have to be.
 use Rattle.std.specs.List.{list_any}
 use Rattle.std.specs.Prelude.{Bool, None, Option, Some, false, true, ◌&&◌, ◌||◌}

@@ -33,7 +33,8 @@ owns me s key = is_owner_in me (row_in s.map key)
 abbrev pub is_mover_of : NodeId → Kept → Key → Bool
 is_mover_of me s key = is_mover_in me (row_in s.map key)
 
--- a map empties the copies of which it does not make the node an owner; it moved the others before, if at all, and needs no marks
+-- a map empties the copies of which it does not make the node an owner; it moved the others before, if at all, and needs no
+-- marks
 abbrev pub keeps_owned : NodeId → PartMap → Copy → Copy
 keeps_owned me m copy = filter (λ (e : Key × Entry). is_some e.1.value && is_owner_in me (row_of m e.0)) copy
 

@@ -1,4 +1,5 @@
--- What the journal of a run shows, on one page. docs/PROMISES.md has a journal that keeps each statement, and one that breaks it.
+-- What the journal of a run shows, on one page. docs/PROMISES.md has a journal that keeps each statement, and one that breaks
+-- it.
 use Rattle.std.specs.Prelude.{Bool, Err, Ok, Result, false, true, ◌&&◌}
 use Rattle.ignite_types.specs.declared.journal.Journal.{Journal}
 use Rattle.journal_statements.specs.Applied.{full_sync}

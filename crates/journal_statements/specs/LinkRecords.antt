@@ -1,4 +1,5 @@
--- Links keep order: what a node takes is what was sent to it, in that order, and never from or at a lost node or on a held link.
+-- Links keep order: what a node takes is what was sent to it, in that order, and never from or at a lost node or on a held
+-- link.
 use Rattle.std.specs.List.{flat_map, list_any}
 use Rattle.std.specs.Prelude.{Bool, None, Option, Some, [], false, if◌then◌else◌, length, nat_lt, not, slice_get, true, ◌&&◌, ◌||◌, ◌∷◌}
 use Rattle.ignite_types.specs.Names.{same_node}

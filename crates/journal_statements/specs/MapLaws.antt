@@ -43,7 +43,8 @@ sent_by_coordinator scenario ts before who (note.Sent to (msg.Full m)) = is_olde
 sent_by_coordinator scenario ts before who (note.Sent to (msg.Opens top)) = is_oldest_of who (topology_of ts top)
 sent_by_coordinator scenario ts before who r = true
 
--- the map of a version is handed out, and its opening is told, by the version's oldest member alone; the map is the installed one
+-- the map of a version is handed out, and its opening is told, by the version's oldest member alone; the map is the installed
+-- one
 abbrev pub one_coordinator : Journal → Bool
 one_coordinator j = let ts = topologies j in
     each_record (λ (before : List Noted) (n : Noted). sent_by_coordinator j.scenario ts before n.node n.rec)

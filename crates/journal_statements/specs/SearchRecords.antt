@@ -1,4 +1,5 @@
--- The search of a transaction for a deadlock, as the records of its starter tell it: when it found nothing, and when it was cut.
+-- The search of a transaction for a deadlock, as the records of its starter tell it: when it found nothing, and when it was
+-- cut.
 use Rattle.std.specs.List.{flat_map, list_all, list_any}
 use Rattle.std.specs.Prelude.{Bool, [], false, filter, if◌then◌else◌, length, map, max, nat_eq, nat_le, not, suc, take, true, zero, ℕ, ◌&&◌, ◌-◌, ◌||◌, ◌∷◌}
 use Rattle.part_model.specs.NextMap.{has_node}
@@ -98,12 +99,14 @@ not_left events nodes = filter (λ (id : NodeId). not (has_node (left_among even
 
 -- The two ends.
 
--- The search found nothing: in its last round each member that the starter did not see leave was asked, each node that was asked
+-- The search found nothing: in its last round each member that the starter did not see leave was asked, each node that was
+-- asked
 -- has answered, no answer named a transaction for which that round did not ask, and the waits have no circle through this one.
 abbrev pub is_clear : Scenario → List TopoEvent → List Rec → TxId → Bool
 is_clear scenario events own tx =
     let search = from_expire tx own in let round = last_round tx search in let waits = waits_brought tx search in
-    list_all (has_node (asked_in tx round search)) (not_left (seen_events events own) (members_at_expire scenario events tx own))
+    list_all (has_node (asked_in tx round search))
+    (not_left (seen_events events own) (members_at_expire scenario events tx own))
     && list_all (λ (id : NodeId). list_any (is_answer_of tx round id) search) (asked_in tx round search)
     && list_all (asks_for_all tx round waits) search
     && not (has_circle tx waits)

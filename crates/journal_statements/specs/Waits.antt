@@ -129,7 +129,8 @@ is_brought_edge tx e r = false
 abbrev pub is_gathered : Journal → TxId → Edge → Bool
 is_gathered j tx e = list_any (is_brought_edge tx e) (from_expire tx (recs_of tx.node (noted j.scenario j.groups)))
 
--- a true report: a circle of waits through the transaction, each of which stands at its node and act and was brought by the search
+-- a true report: a circle of waits through the transaction, each of which stands at its node and act and was brought by the
+-- search
 abbrev pub is_true_deadlock : Journal → TxId → List Edge → Bool
 is_true_deadlock j tx edges = begins_with tx edges && is_chain tx edges && all_differ (waiters_of_edges edges)
     && list_all (λ (e : Edge). has_stood j e.node e.act e.wait && is_gathered j tx e) edges

@@ -28,14 +28,16 @@ drop_next (y ∷ ys) (suc k) x is = drop_next ys k x is
 pub raised_is : (k most : ℕ) → k < most → most ≤ 64 → next_count k ≡ suc k
 raised_is k most less short = omega (arith, less, short)
 
-pub map_some : {X Y : Type 0} (f : X → Option Y) (x : X) (xs : List X) (y : Y) → f x ≡ Some y → filter_map f (x ∷ xs) ≡ y ∷ filter_map f xs
+pub map_some : {X Y : Type 0} (f : X → Option Y) (x : X) (xs : List X) (y : Y) → f x ≡ Some y →
+    filter_map f (x ∷ xs) ≡ y ∷ filter_map f xs
 map_some f x xs y is = rw is refl
 
 pub map_none : {X Y : Type 0} (f : X → Option Y) (x : X) (xs : List X) → f x ≡ None → filter_map f (x ∷ xs) ≡ filter_map f xs
 map_none f x xs is = rw is refl
 
 -- a step by which none joins
-pub none_joins : (ns : List Noted) (members : List Member) (x : PlanStep) (rest : List PlanStep) → joining x.step ≡ None → StillNew ns members (x ∷ rest) → StillNew ns members rest
+pub none_joins : (ns : List Noted) (members : List Member) (x : PlanStep) (rest : List PlanStep) → joining x.step ≡ None →
+    StillNew ns members (x ∷ rest) → StillNew ns members rest
 none_joins ns members x rest none c =
     let same = map_none (λ (p : PlanStep). joining p.step) x rest none in
     record {
@@ -60,7 +62,8 @@ filter_none p q (x ∷ xs) none =
     ]) refl none
 
 -- a member is lost
-pub new_after_loss : (a b : List Noted) (members : List Member) (id : NodeId) (steps : List PlanStep) → ((node : NodeId) → is_lost b node ≡ (is_lost a node || same_node id node)) → is_member members id ≡ true
+pub new_after_loss : (a b : List Noted) (members : List Member) (id : NodeId) (steps : List PlanStep) →
+    ((node : NodeId) → is_lost b node ≡ (is_lost a node || same_node id node)) → is_member members id ≡ true
     → StillNew a members steps → StillNew b (without_node id members) steps
 new_after_loss a b members id steps lost member c = record {
   are_apart = c.are_apart;
@@ -68,8 +71,10 @@ new_after_loss a b members id steps lost member c = record {
       (λ m new.
       let both = first_rest (not (is_lost a m.node)) (not (is_member members m.node)) new in
       let out : is_member members m.node ≡ false = not_true (is_member members m.node) both.1 in
-      let kept : is_lost b m.node ≡ false = lost m.node ∙ ap (λ (r : Bool). r || same_node id m.node) (not_true (is_lost a m.node) both.0) ∙ other m out in
-      let still : is_member (without_node id members) m.node ≡ false = filter_none (λ (k : Member). same_node m.node k.node) (λ (k : Member). not (same_node k.node id)) members out in
+      let kept : is_lost b m.node ≡ false = lost m.node ∙ ap (λ (r : Bool). r || same_node id m.node)
+      (not_true (is_lost a m.node) both.0) ∙ other m out in
+      let still : is_member (without_node id members) m.node ≡ false = filter_none (λ (k : Member). same_node m.node k.node)
+      (λ (k : Member). not (same_node k.node id)) members out in
       ap (λ (r : Bool). not r && not (is_member (without_node id members) m.node)) kept ∙ ap (λ (r : Bool). not r) still)
       c.are_new;
 }
@@ -83,32 +88,47 @@ new_after_loss a b members id steps lost member c = record {
           | false ↦ λ f. refl
         ] refl
 
-one_new : (ns : List Noted) (members : List Member) (m k : Member) → good.same_member_node m k ≡ false → is_new ns members k ≡ true → is_new ns (members ++ m ∷ []) k ≡ true
+one_new : (ns : List Noted) (members : List Member) (m k : Member) → good.same_member_node m k ≡ false →
+    is_new ns members k ≡ true → is_new ns (members ++ m ∷ []) k ≡ true
 one_new ns members m k other new =
     let both = first_rest (not (is_lost ns k.node)) (not (is_member members k.node)) new in
     let apart : same_node k.node m.node ≡ false = (grind (arith, nat_tests, other)) in
     let out : is_member (members ++ m ∷ []) k.node ≡ false =
-    list_any-append (λ (x : Member). same_node k.node x.node) members (m ∷ []) ∙ ap (λ (r : Bool). r || (same_node k.node m.node || false)) (not_true (is_member members k.node) both.1) ∙ ap (λ (r : Bool). r || false) apart in
+    list_any-append (λ (x : Member). same_node k.node x.node) members (m ∷ [])
+    ∙ ap (λ (r : Bool). r || (same_node k.node m.node || false)) (not_true (is_member members k.node) both.1)
+    ∙ ap (λ (r : Bool). r || false) apart in
     ap (λ (r : Bool). not (is_lost ns k.node) && not r) out ∙ ap (λ (r : Bool). r && true) both.0
 
-more_new : (ns : List Noted) (members : List Member) (m : Member) (ks : List Member) → list_any (good.same_member_node m) ks ≡ false → list_all (is_new ns members) ks ≡ true → list_all (is_new ns (members ++ m ∷ [])) ks ≡ true
+more_new : (ns : List Noted) (members : List Member) (m : Member) (ks : List Member) →
+    list_any (good.same_member_node m) ks ≡ false → list_all (is_new ns members) ks ≡ true →
+    list_all (is_new ns (members ++ m ∷ [])) ks ≡ true
 more_new ns members m [] apart new = refl
 more_new ns members m (k ∷ ks) apart new =
     let both = first_rest (is_new ns members k) (list_all (is_new ns members) ks) new in
-    (elim (good.same_member_node m k) as (λ b. good.same_member_node m k ≡ b → (b || list_any (good.same_member_node m) ks) ≡ false → (is_new ns (members ++ m ∷ []) k && list_all (is_new ns (members ++ m ∷ [])) ks) ≡ true) [
+    (elim (good.same_member_node m k) as (λ b. good.same_member_node m k ≡ b → (b || list_any (good.same_member_node m) ks)
+    ≡ false → (is_new ns (members ++ m ∷ []) k && list_all (is_new ns (members ++ m ∷ [])) ks) ≡ true) [
       | true ↦ λ t e. absurd (cc)
-      | false ↦ λ f e. ap (λ (r : Bool). r && list_all (is_new ns (members ++ m ∷ [])) ks) (one_new ns members m k f both.0) ∙ more_new ns members m ks e both.1
+      | false ↦ λ f e. ap (λ (r : Bool). r && list_all (is_new ns (members ++ m ∷ [])) ks) (one_new ns members m k f both.0)
+          ∙ more_new ns members m ks e both.1
     ]) refl apart
 
 -- the first of the steps lets a node join
-pub one_joins : (ns : List Noted) (members : List Member) (x : PlanStep) (m : Member) (rest : List PlanStep) → joining x.step ≡ Some m → StillNew ns members (x ∷ rest)
+pub one_joins : (ns : List Noted) (members : List Member) (x : PlanStep) (m : Member) (rest : List PlanStep) →
+    joining x.step ≡ Some m → StillNew ns members (x ∷ rest)
     → StillNew ns members rest × StillNew ns (members ++ m ∷ []) rest × (is_lost ns m.node ≡ false)
 one_joins ns members x m rest joins c =
     let same = map_some (λ (p : PlanStep). joining p.step) x rest m joins in
-    let apart = first_rest (not (list_any (good.same_member_node m) (joiners rest))) (are_distinct good.same_member_node (joiners rest)) (subst (λ (js : List Member). are_distinct good.same_member_node js ≡ true) same c.are_apart) in
-    let new = first_rest (is_new ns members m) (list_all (is_new ns members) (joiners rest)) (subst (λ (js : List Member). list_all (is_new ns members) js ≡ true) same c.are_new) in
+    let apart = first_rest (not (list_any (good.same_member_node m) (joiners rest)))
+    (are_distinct good.same_member_node (joiners rest))
+    (subst (λ (js : List Member). are_distinct good.same_member_node js ≡ true) same c.are_apart) in
+    let new = first_rest (is_new ns members m) (list_all (is_new ns members) (joiners rest))
+    (subst (λ (js : List Member). list_all (is_new ns members) js ≡ true) same c.are_new) in
     let own = first_rest (not (is_lost ns m.node)) (not (is_member members m.node)) new.0 in (
       record { are_apart = apart.1; are_new = new.1 },
-      record { are_apart = apart.1; are_new = more_new ns members m (joiners rest) (not_true (list_any (good.same_member_node m) (joiners rest)) apart.0) new.1 },
+      record {
+        are_apart = apart.1;
+        are_new =
+            more_new ns members m (joiners rest) (not_true (list_any (good.same_member_node m) (joiners rest)) apart.0) new.1;
+      },
       not_true (is_lost ns m.node) own.0,
     )

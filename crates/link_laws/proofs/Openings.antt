@@ -63,10 +63,13 @@ with_rises : (n : ℕ) (xs : List NodeId) (k : NodeId) → n ≤ k.0 → rises n
 with_rises n [] k low up = both_true (nat_le n k.0) true (grind (arith, nat_tests, low)) refl
 with_rises n (x ∷ xs) k low up =
     let both = first_rest (nat_le n x.0) (rises (suc x.0) xs) up in
-    elim (node_cmp k x) as (λ r. node_cmp k x ≡ r → rises n (match_ordering r (k ∷ x ∷ xs) (x ∷ xs) (x ∷ with_member node_cmp xs k)) ≡ true) [
-      | Less ↦ λ g. both_true (nat_le n k.0) (nat_le (suc k.0) x.0 && rises (suc x.0) xs) (grind (arith, nat_tests, low)) (both_true (nat_le (suc k.0) x.0) (rises (suc x.0) xs) (above g) both.1)
+    elim (node_cmp k x) as (λ r. node_cmp k x ≡ r →
+    rises n (match_ordering r (k ∷ x ∷ xs) (x ∷ xs) (x ∷ with_member node_cmp xs k)) ≡ true) [
+      | Less ↦ λ g. both_true (nat_le n k.0) (nat_le (suc k.0) x.0 && rises (suc x.0) xs) (grind (arith, nat_tests, low))
+          (both_true (nat_le (suc k.0) x.0) (rises (suc x.0) xs) (above g) both.1)
       | Equal ↦ λ g. up
-      | Greater ↦ λ g. both_true (nat_le n x.0) (rises (suc x.0) (with_member node_cmp xs k)) both.0 (with_rises (suc x.0) xs k (below g) both.1)
+      | Greater ↦ λ g. both_true (nat_le n x.0) (rises (suc x.0) (with_member node_cmp xs k)) both.0
+          (with_rises (suc x.0) xs k (below g) both.1)
     ] refl
   where
     above : node_cmp k x ≡ Less → nat_le (suc k.0) x.0 ≡ true
@@ -90,7 +93,8 @@ above_first n (y ∷ ys) (suc k) x up is =
     let more = above_first (suc y.0) ys k x both.1 is in
     grind (arith, nat_tests, both.0, more)
 
-ids_apart : (n : ℕ) (xs : List NodeId) (j k : ℕ) (x y : NodeId) → rises n xs ≡ true → slice_get xs j ≡ Some x → slice_get xs k ≡ Some y → same_node x y ≡ true → j ≡ k
+ids_apart : (n : ℕ) (xs : List NodeId) (j k : ℕ) (x y : NodeId) → rises n xs ≡ true → slice_get xs j ≡ Some x →
+    slice_get xs k ≡ Some y → same_node x y ≡ true → j ≡ k
 ids_apart n [] j k x y up at_j at_k same = absurd (cc)
 ids_apart n (z ∷ zs) zero zero x y up at_j at_k same = refl
 ids_apart n (z ∷ zs) zero (suc k) x y up at_j at_k same =
@@ -111,7 +115,8 @@ ids_apart n (z ∷ zs) (suc j) (suc k) x y up at_j at_k same =
 
 -- Empty links.
 
-put_empty : (links : List (NodeId × Link)) (k x : NodeId) (e l : Link) → ((m : Link) → at node_cmp links x ≡ Some m → m ≡ e) → at node_cmp (put node_cmp links k e) x ≡ Some l → l ≡ e
+put_empty : (links : List (NodeId × Link)) (k x : NodeId) (e l : Link) → ((m : Link) → at node_cmp links x ≡ Some m → m ≡ e) →
+    at node_cmp (put node_cmp links k e) x ≡ Some l → l ≡ e
 put_empty links k x e l before is =
     elim (same_node k x) as (λ b. same_node k x ≡ b → l ≡ e) [
       | true ↦ λ t.
@@ -120,37 +125,49 @@ put_empty links k x e l before is =
       | false ↦ λ f. before l (sym (laws.at_put_other node_cmp node_total links k x e (node_apart k x f)) ∙ is)
     ] refl
 
-empty_links : (links : List (NodeId × Link)) (ks : List NodeId) (x : NodeId) (l : Link) → ((m : Link) → at node_cmp links x ≡ Some m → m ≡ record { held = false; messages = [] }) → at node_cmp (inbox_from links ks) x ≡ Some l → l ≡ record { held = false; messages = [] }
+empty_links : (links : List (NodeId × Link)) (ks : List NodeId) (x : NodeId) (l : Link) →
+    ((m : Link) → at node_cmp links x ≡ Some m → m ≡ record { held = false; messages = [] }) →
+    at node_cmp (inbox_from links ks) x ≡ Some l → l ≡ record { held = false; messages = [] }
 empty_links links [] x l before is = before l is
 empty_links links (k ∷ ks) x l before is =
-    empty_links (put node_cmp links k (record { held = false; messages = [] })) ks x l (λ m has. put_empty links k x (record { held = false; messages = [] }) m before has) is
+    empty_links (put node_cmp links k (record { held = false; messages = [] })) ks x l
+    (λ m has. put_empty links k x (record { held = false; messages = [] }) m before has) is
 
 -- Who joins later is no member at first.
 
-apart_parts : (xs ys : List Member) → are_distinct good.same_member_node (xs ++ ys) ≡ true → (are_distinct good.same_member_node ys ≡ true) × (list_all (is_new [] xs) ys ≡ true)
+apart_parts : (xs ys : List Member) → are_distinct good.same_member_node (xs ++ ys) ≡ true →
+    (are_distinct good.same_member_node ys ≡ true) × (list_all (is_new [] xs) ys ≡ true)
 apart_parts [] ys apart = (apart, none_yet ys)
   where
     none_yet : (zs : List Member) → list_all (is_new [] []) zs ≡ true
     none_yet [] = refl
     none_yet (z ∷ zs) = none_yet zs
 apart_parts (x ∷ xs) ys apart =
-    let both = first_rest (not (list_any (good.same_member_node x) (xs ++ ys))) (are_distinct good.same_member_node (xs ++ ys)) apart in
-    let rest = apart_parts xs ys both.1 in
-    (rest.0, one_more ys (no_right (list_any (good.same_member_node x) xs) (list_any (good.same_member_node x) ys) (sym (list_any-append (good.same_member_node x) xs ys) ∙ not_true (list_any (good.same_member_node x) (xs ++ ys)) both.0)) rest.1)
+    let both = first_rest (not (list_any (good.same_member_node x) (xs ++ ys)))
+    (are_distinct good.same_member_node (xs ++ ys)) apart in
+    let rest = apart_parts xs ys both.1 in (
+      rest.0,
+      one_more ys (no_right (list_any (good.same_member_node x) xs) (list_any (good.same_member_node x) ys)
+          (sym (list_any-append (good.same_member_node x) xs ys)
+          ∙ not_true (list_any (good.same_member_node x) (xs ++ ys)) both.0)) rest.1,
+    )
   where
     no_right : (a b : Bool) → (a || b) ≡ false → b ≡ false
     no_right true b e = absurd (cc)
     no_right false b e = e
 
-    one_more : (zs : List Member) → list_any (good.same_member_node x) zs ≡ false → list_all (is_new [] xs) zs ≡ true → list_all (is_new [] (x ∷ xs)) zs ≡ true
+    one_more : (zs : List Member) → list_any (good.same_member_node x) zs ≡ false → list_all (is_new [] xs) zs ≡ true →
+        list_all (is_new [] (x ∷ xs)) zs ≡ true
     one_more [] none all = refl
     one_more (z ∷ zs) none all =
         let new = first_rest (is_new [] xs z) (list_all (is_new [] xs) zs) all in
-        (elim (good.same_member_node x z) as (λ b. good.same_member_node x z ≡ b → (b || list_any (good.same_member_node x) zs) ≡ false → list_all (is_new [] (x ∷ xs)) (z ∷ zs) ≡ true) [
+        (elim (good.same_member_node x z) as (λ b. good.same_member_node x z ≡ b →
+        (b || list_any (good.same_member_node x) zs) ≡ false → list_all (is_new [] (x ∷ xs)) (z ∷ zs) ≡ true) [
           | true ↦ λ t e. absurd (cc)
           | false ↦ λ f e.
               let other : same_node z.node x.node ≡ false = (grind (arith, nat_tests, f)) in
-              ap (λ (r : Bool). not (r || is_member xs z.node) && list_all (is_new [] (x ∷ xs)) zs) other ∙ both_true (not (is_member xs z.node)) (list_all (is_new [] (x ∷ xs)) zs) new.0 (one_more zs e new.1)
+              ap (λ (r : Bool). not (r || is_member xs z.node) && list_all (is_new [] (x ∷ xs)) zs) other
+              ∙ both_true (not (is_member xs z.node)) (list_all (is_new [] (x ∷ xs)) zs) new.0 (one_more zs e new.1)
         ]) refl none
 
 not_gone : (b : Bool) → is_gone (if b then life.Alive else life.Absent) ≡ false
@@ -169,8 +186,10 @@ opening_carries s apart =
           let a = after_map (opening_part s m) ids j p at_j in
           let b = after_map (opening_part s m) ids k q at_k in
           ids_apart 0 ids j k a.0 b.0 (set_rises [] (declared_nodes s) refl) a.1 b.1
-          (subst (λ (y : Part). same_node a.0 y.node.me ≡ true) (sym b.2) (subst (λ (y : Part). same_node y.node.me q.node.me ≡ true) (sym a.2) same));
-      lives = λ k p at. let a = after_map (opening_part s m) ids k p at in subst (λ (y : Part). is_gone y.life ≡ false) a.2 (not_gone (is_member s.nodes a.0));
+          (subst (λ (y : Part). same_node a.0 y.node.me ≡ true) (sym b.2)
+          (subst (λ (y : Part). same_node y.node.me q.node.me ≡ true) (sym a.2) same));
+      lives = λ k p at. let a = after_map (opening_part s m) ids k p at in subst (λ (y : Part). is_gone y.life ≡ false) a.2
+          (not_gone (is_member s.nodes a.0));
       inboxes_are = λ k p b at has.
           let a = after_map (λ (id : NodeId). new_inbox ids) ids k b has in
           subst (λ (y : Inbox). InboxCarries s.plan [] p.node.me y) a.2 (record {

@@ -34,11 +34,13 @@ pub flag_itself : (a : Bool) → same_flag a a ≡ true
 flag_itself true = refl
 flag_itself false = refl
 
-pub list_itself : {A : Type 0} (same : A → A → Bool) → ((a : A) → same a a ≡ true) → (list : List A) → pointwise same list list ≡ true
+pub list_itself : {A : Type 0} (same : A → A → Bool) → ((a : A) → same a a ≡ true) → (list : List A) →
+    pointwise same list list ≡ true
 list_itself same each [] = refl
 list_itself same each (a ∷ list) = rw (each a, list_itself same each list) refl
 
-pub maybe_itself : {A : Type 0} (same : A → A → Bool) → ((a : A) → same a a ≡ true) → (a : Option A) → same_maybe same a a ≡ true
+pub maybe_itself : {A : Type 0} (same : A → A → Bool) → ((a : A) → same a a ≡ true) → (a : Option A) →
+    same_maybe same a a ≡ true
 maybe_itself same each None = refl
 maybe_itself same each (Some a) = each a
 
@@ -99,7 +101,12 @@ same_fail_itself (fail.Candidate key holder) = rw (same_key_itself key, same_tx_
 
 pub same_orphan_itself : (a : Orphan) → same_orphan a a ≡ true
 same_orphan_itself a =
-    rw (same_tx_itself a.tx, list_itself same_share same_share_itself a.shares, list_itself same_held same_held_itself a.held, flag_itself a.locks) refl
+    rw (
+      same_tx_itself a.tx,
+      list_itself same_share same_share_itself a.shares,
+      list_itself same_held same_held_itself a.held,
+      flag_itself a.locks,
+    ) refl
 
 pub same_message_itself : (m : Message) → same_message m m ≡ true
 same_message_itself (msg.Lock tx top key) = rw (same_tx_itself tx, same_top_itself top, same_key_itself key) refl
@@ -107,20 +114,38 @@ same_message_itself (msg.LockOk tx key found) = rw (same_tx_itself tx, same_key_
 same_message_itself (msg.Get tx key near) = rw (same_tx_itself tx, same_key_itself key, flag_itself near) refl
 same_message_itself (msg.GetOk tx key found) = rw (same_tx_itself tx, same_key_itself key, same_found_itself found) refl
 same_message_itself (msg.Prepare tx top mode shares wanted writes) =
-    rw (same_tx_itself tx, same_top_itself top, same_mode_itself mode, list_itself same_share same_share_itself shares, list_itself same_wanted same_wanted_itself wanted, list_itself same_write same_write_itself writes) refl
+    rw (
+      same_tx_itself tx,
+      same_top_itself top,
+      same_mode_itself mode,
+      list_itself same_share same_share_itself shares,
+      list_itself same_wanted same_wanted_itself wanted,
+      list_itself same_write same_write_itself writes,
+    ) refl
 same_message_itself (msg.Prepared tx) = same_tx_itself tx
 same_message_itself (msg.PrepareFail tx why) = rw (same_tx_itself tx, same_fail_itself why) refl
 same_message_itself (msg.BackupPrepare tx top shares primary writes) =
-    rw (same_tx_itself tx, same_top_itself top, list_itself same_share same_share_itself shares, same_node_itself primary, list_itself same_stored same_stored_itself writes) refl
+    rw (
+      same_tx_itself tx,
+      same_top_itself top,
+      list_itself same_share same_share_itself shares,
+      same_node_itself primary,
+      list_itself same_stored same_stored_itself writes,
+    ) refl
 same_message_itself (msg.BackupPrepared tx) = same_tx_itself tx
 same_message_itself (msg.Finish tx commit) = rw (same_tx_itself tx, flag_itself commit) refl
 same_message_itself (msg.Finished tx) = same_tx_itself tx
-same_message_itself (msg.BackupFinish tx primary commit) = rw (same_tx_itself tx, same_node_itself primary, flag_itself commit) refl
+same_message_itself (msg.BackupFinish tx primary commit) = rw (
+  same_tx_itself tx,
+  same_node_itself primary,
+  flag_itself commit,
+) refl
 same_message_itself (msg.BackupFinished tx primary) = rw (same_tx_itself tx, same_node_itself primary) refl
 same_message_itself (msg.NearUpdate tx key new ver) =
     rw (same_tx_itself tx, same_key_itself key, maybe_itself same_text same_text_itself new, same_cache_version_itself ver) refl
 same_message_itself (msg.NearDone tx key) = rw (same_tx_itself tx, same_key_itself key) refl
-same_message_itself (msg.Edges tx round of) = rw (same_tx_itself tx, number_itself round, list_itself same_tx same_tx_itself of) refl
+same_message_itself (msg.Edges tx round of) =
+    rw (same_tx_itself tx, number_itself round, list_itself same_tx same_tx_itself of) refl
 same_message_itself (msg.EdgesOk tx round act waits) =
     rw (same_tx_itself tx, number_itself round, number_itself act, list_itself same_wait same_wait_itself waits) refl
 same_message_itself (msg.Single top m complete) =

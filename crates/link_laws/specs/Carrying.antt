@@ -48,7 +48,8 @@ pub record LinkCarries (plan : List PlanStep) (recs : List Noted) (from to : Nod
   pub held_is : l.held ≡ is_link_held plan from to recs
   pub sender_lost : is_lost recs from ≡ true → l.messages ≡ []
   pub addressee_lost : is_lost recs to ≡ true → l.messages ≡ []
-  pub in_order : is_lost recs from ≡ false → is_lost recs to ≡ false → sent_on from to recs ≡ taken_on from to recs ++ l.messages
+  pub in_order : is_lost recs from ≡ false → is_lost recs to ≡ false → sent_on from to recs ≡ taken_on from to recs
+      ++ l.messages
 
 -- an inbox is closed exactly where its node is lost
 pub record InboxCarries (plan : List PlanStep) (recs : List Noted) (to : NodeId) (b : Inbox) : Type 0 where
@@ -58,7 +59,8 @@ pub record InboxCarries (plan : List PlanStep) (recs : List Noted) (to : NodeId)
 -- a node's number stands at one place only
 abbrev pub NodesApart : List Part → Type 0
 NodesApart parts =
-    (j k : ℕ) (p q : Part) → slice_get parts j ≡ Some p → slice_get parts k ≡ Some q → same_node p.node.me q.node.me ≡ true → j ≡ k
+    (j k : ℕ) (p q : Part) → slice_get parts j ≡ Some p → slice_get parts k ≡ Some q → same_node p.node.me q.node.me ≡ true →
+    j ≡ k
 
 -- those who join by these steps
 abbrev pub joiners : List PlanStep → List Member
@@ -78,7 +80,8 @@ pub record LinkInvariant (s : Scenario) (recs : List Noted) (w : World) : Type 0
   pub session_nodes_are : w.session_nodes ≡ session_nodes_from 1 [] s.sessions
   pub apart : NodesApart w.parts
   pub lives : (k : ℕ) (p : Part) → slice_get w.parts k ≡ Some p → is_gone p.life ≡ is_lost recs p.node.me
-  pub inboxes_are : (k : ℕ) (p : Part) (b : Inbox) → slice_get w.parts k ≡ Some p → slice_get w.inboxes k ≡ Some b → InboxCarries s.plan recs p.node.me b
+  pub inboxes_are : (k : ℕ) (p : Part) (b : Inbox) → slice_get w.parts k ≡ Some p → slice_get w.inboxes k ≡ Some b →
+      InboxCarries s.plan recs p.node.me b
   pub waiting : StillNew recs w.directory.members (drop w.directory.done s.plan)
 
 -- further records pass the test, and the world behind them is as all records say

@@ -1,4 +1,5 @@
--- A server joins and demands the old owner's entries, but the demand is on a held link. Meanwhile B writes one key and removes the
+-- A server joins and demands the old owner's entries, but the demand is on a held link. Meanwhile B writes one key and
+-- removes the
 -- other, and its prepare comes to the new copy first. When the link is released the old owner still supplies what it had before
 -- B's commit; the new copy takes both, and has B's value and no removed key when it is the primary, as C finds on it.
 use Rattle.std.proofs.Common.{[], Ok, refl, true, ◌∷◌, ◌≡◌}
@@ -49,7 +50,8 @@ the_removal_stays : shown_at places removed_before_supply ≡ comes_to
 the_removal_stays = refl
 
 -- the prepare of the removal comes before the supply
-last_the_old_entries : brought_at places removed_before_supply ≡ pair_of "a" "2" ∷ absent "b" ∷ pair_of "a" "1" ∷ pair_of "b" "1" ∷ []
+last_the_old_entries : brought_at places removed_before_supply ≡ pair_of "a" "2" ∷ absent "b" ∷ pair_of "a" "1"
+    ∷ pair_of "b" "1" ∷ []
 last_the_old_entries = refl
 
 the_laws_hold : laws_hold_at places removed_before_supply ≡ true

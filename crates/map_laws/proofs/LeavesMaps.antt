@@ -29,14 +29,16 @@ use Rattle.ordered_set.specs.Members.{with_member}
 use Rattle.ignite_types.specs.declared.message.Message.TheVariants as msg
 use Rattle.ignite_types.specs.declared.journal.Rec.TheVariants as note
 
-both_silent : (xs ys : List Rec) → list_all says_no_map xs ≡ true → list_all says_no_map ys ≡ true → list_all says_no_map (xs ++ ys) ≡ true
+both_silent : (xs ys : List Rec) → list_all says_no_map xs ≡ true → list_all says_no_map ys ≡ true →
+    list_all says_no_map (xs ++ ys) ≡ true
 both_silent [] ys first second = second
 both_silent (x ∷ xs) ys first second =
     let both = first_rest (says_no_map x) (list_all says_no_map xs) first in
     rw both.0 (both_silent xs ys both.1 second)
 
 -- nothing is noted
-pub aside : (before after : NodeState) → after.noted ≡ before.noted → after.caches ≡ before.caches → after.installed ≡ before.installed → after.singles ≡ before.singles → LeavesMaps before after
+pub aside : (before after : NodeState) → after.noted ≡ before.noted → after.caches ≡ before.caches →
+    after.installed ≡ before.installed → after.singles ≡ before.singles → LeavesMaps before after
 aside before after noted caches map_is singles = record {
   more = [];
   noted_is = noted ∙ sym (append_none before.noted);
@@ -75,17 +77,25 @@ noting_leaves s r silent = record {
   same_singles = refl;
 }
 
-grants_leaves : (s : NodeState) (to : NodeId) (tx : TxId) (top : TopVer) (key : Key) → LeavesMaps s (after_grant s to tx top key)
-grants_leaves s to tx top key = andthen s (with_note s (note.Grant tx top key)) (after_grant s to tx top key) (noting_leaves s (note.Grant tx top key) refl) (aside (with_note s (note.Grant tx top key)) (after_grant s to tx top key) refl refl refl refl)
+grants_leaves : (s : NodeState) (to : NodeId) (tx : TxId) (top : TopVer) (key : Key) →
+    LeavesMaps s (after_grant s to tx top key)
+grants_leaves s to tx top key = andthen s (with_note s (note.Grant tx top key)) (after_grant s to tx top key)
+    (noting_leaves s (note.Grant tx top key) refl) (aside (with_note s (note.Grant tx top key)) (after_grant s to tx top key)
+    refl refl refl refl)
 
 enqueued_leaves : (s : NodeState) (tx : TxId) (key : Key) → LeavesMaps s (with_queued s tx key)
 enqueued_leaves s tx key = aside s (with_queued s tx key) refl refl refl refl
 
-placed_leaves : (s : NodeState) (from : NodeId) (tx : TxId) (top : TopVer) (key : Key) (owner : Option TxId) → LeavesMaps s (after_lock_behind s from tx top key owner)
-placed_leaves s from tx top key None = andthen s (with_queued s tx key) (after_grant (with_queued s tx key) from tx top key) (enqueued_leaves s tx key) (grants_leaves (with_queued s tx key) from tx top key)
-placed_leaves s from tx top key (Some owner) = andthen s (with_queued s tx key) (with_note (with_queued s tx key) (note.Queue tx key owner)) (enqueued_leaves s tx key) (noting_leaves (with_queued s tx key) (note.Queue tx key owner) refl)
+placed_leaves : (s : NodeState) (from : NodeId) (tx : TxId) (top : TopVer) (key : Key) (owner : Option TxId) →
+    LeavesMaps s (after_lock_behind s from tx top key owner)
+placed_leaves s from tx top key None = andthen s (with_queued s tx key) (after_grant (with_queued s tx key) from tx top key)
+    (enqueued_leaves s tx key) (grants_leaves (with_queued s tx key) from tx top key)
+placed_leaves s from tx top key (Some owner) =
+    andthen s (with_queued s tx key) (with_note (with_queued s tx key) (note.Queue tx key owner)) (enqueued_leaves s tx key)
+    (noting_leaves (with_queued s tx key) (note.Queue tx key owner) refl)
 
-passed_on_leaves : (s : NodeState) (key : Key) (was_owner : Bool) (owner : Option TxId) → LeavesMaps s (after_pass_on s key was_owner owner)
+passed_on_leaves : (s : NodeState) (key : Key) (was_owner : Bool) (owner : Option TxId) →
+    LeavesMaps s (after_pass_on s key was_owner owner)
 passed_on_leaves s key true (Some next) = grants_leaves s next.node next (installed_top s) key
 passed_on_leaves s key true None = nothing s
 passed_on_leaves s key false owner = nothing s
@@ -103,12 +113,15 @@ pub leaving : ClosedUnderSteps LeavesMaps
 leaving = record {
   nothing = nothing;
   andthen = andthen;
-  aside = λ before after same. aside before after (ap (λ (f : PlainFrame). f.noted) same) (ap (λ (f : PlainFrame). f.caches) same) (ap (λ (f : PlainFrame). f.installed) same) (ap (λ (f : PlainFrame). f.singles) same);
+  aside = λ before after same. aside before after (ap (λ (f : PlainFrame). f.noted) same)
+      (ap (λ (f : PlainFrame). f.caches) same) (ap (λ (f : PlainFrame). f.installed) same)
+      (ap (λ (f : PlainFrame). f.singles) same);
   noting = λ s r own lockless other. noting_leaves s r (own_silent r own other);
   sent_all = λ s outs plain. aside s (with_outs s outs) refl refl refl refl;
   placed = λ s from tx top key. placed_leaves s from tx top key (owner_at s key);
   released = released_leaves;
-  owned = λ s tx top key free. andthen s (with_queued s tx key) (with_note (with_queued s tx key) (note.Grant tx top key)) (enqueued_leaves s tx key) (noting_leaves (with_queued s tx key) (note.Grant tx top key) refl);
+  owned = λ s tx top key free. andthen s (with_queued s tx key) (with_note (with_queued s tx key) (note.Grant tx top key))
+      (enqueued_leaves s tx key) (noting_leaves (with_queued s tx key) (note.Grant tx top key) refl);
 }
 
 -- Rows of the exchange.
@@ -122,7 +135,9 @@ opens_row_leaves s top =
     let noted : NodeState = with_note opening (note.Opened top) in
     andthen s noted (after_opens s top)
     (andthen s opening noted (aside s opening refl refl refl refl) (noting_leaves opening (note.Opened top) refl))
-    (andthen noted (after_start_all noted) (after_send_demands (after_start_all noted)) (starts_all_kept LeavesMaps leaving noted) (aside (after_start_all noted) (after_send_demands (after_start_all noted)) refl refl refl refl))
+    (andthen noted (after_start_all noted) (after_send_demands (after_start_all noted))
+    (starts_all_kept LeavesMaps leaving noted) (aside (after_start_all noted) (after_send_demands (after_start_all noted))
+    refl refl refl refl))
 
 opens_for_all_leaves : (s : NodeState) (top : TopVer) → LeavesMaps s (after_open_for_all s top)
 opens_for_all_leaves s top =
@@ -134,14 +149,16 @@ counts_leaves s x =
     let here : NodeState = record s { exchange = Some x } in
     andthen s here (after_count s x) (aside s here refl refl refl refl) (by (all_installed here.members x.installed))
   where
-    by : (c : Bool) → let here : NodeState = record s { exchange = Some x } in LeavesMaps here (if c then after_open_for_all here x.top else here)
+    by : (c : Bool) → let here : NodeState = record s { exchange = Some x } in
+        LeavesMaps here (if c then after_open_for_all here x.top else here)
     by true = opens_for_all_leaves (record s { exchange = Some x }) x.top
     by false = nothing (record s { exchange = Some x })
 
 pub installed_row_leaves : (s : NodeState) (from : NodeId) (top : TopVer) → LeavesMaps s (after_installed s from top)
 installed_row_leaves s from top = by s.exchange
   where
-    counted : (x : Exchange) (c : Bool) → LeavesMaps s (if c then after_count s (record x { installed = with_member node_cmp x.installed from }) else s)
+    counted : (x : Exchange) (c : Bool) →
+        LeavesMaps s (if c then after_count s (record x { installed = with_member node_cmp x.installed from }) else s)
     counted x true = counts_leaves s (record x { installed = with_member node_cmp x.installed from })
     counted x false = nothing s
 
@@ -152,7 +169,8 @@ installed_row_leaves s from top = by s.exchange
 single_if_drained_leaves : (s : NodeState) → LeavesMaps s (after_single_if_drained s)
 single_if_drained_leaves s = by (owes_single s)
   where
-    to_oldest : (m : Message) (to : Option NodeId) → LeavesMaps s (with_out_to_oldest (record s { single_sent = Some s.seen }) m to)
+    to_oldest : (m : Message) (to : Option NodeId) →
+        LeavesMaps s (with_out_to_oldest (record s { single_sent = Some s.seen }) m to)
     to_oldest m None = aside s (record s { single_sent = Some s.seen }) refl refl refl refl
     to_oldest m (Some oldest) = aside s (with_out (record s { single_sent = Some s.seen }) oldest m) refl refl refl refl
 

@@ -29,17 +29,20 @@ filter_swap : (p q : Single → Bool) (xs : List Single) → filter p (filter q 
 filter_swap p q [] = refl
 filter_swap p q (x ∷ xs) = by (filter_swap p q xs) (p x) refl (q x) refl
   where
-    by : filter p (filter q xs) ≡ filter q (filter p xs) → (c : Bool) → p x ≡ c → (d : Bool) → q x ≡ d → filter p (if d then x ∷ filter q xs else filter q xs) ≡ filter q (if c then x ∷ filter p xs else filter p xs)
+    by : filter p (filter q xs) ≡ filter q (filter p xs) → (c : Bool) → p x ≡ c → (d : Bool) → q x ≡ d →
+        filter p (if d then x ∷ filter q xs else filter q xs) ≡ filter q (if c then x ∷ filter p xs else filter p xs)
     by rest true is true also = rw (is, also) (ap (λ ys. x ∷ ys) rest)
     by rest true is false other = rw other rest
     by rest false is true also = rw is rest
     by rest false is false other = rest
 
-filter_both : (p q r : Single → Bool) (xs : List Single) → ((x : Single) → r x ≡ (q x && p x)) → filter p (filter q xs) ≡ filter r xs
+filter_both : (p q r : Single → Bool) (xs : List Single) → ((x : Single) → r x ≡ (q x && p x)) →
+    filter p (filter q xs) ≡ filter r xs
 filter_both p q r [] joins = refl
 filter_both p q r (x ∷ xs) joins = by (filter_both p q r xs joins) (p x) refl (q x) refl (joins x)
   where
-    by : filter p (filter q xs) ≡ filter r xs → (c : Bool) → p x ≡ c → (d : Bool) → q x ≡ d → r x ≡ (q x && p x) → filter p (if d then x ∷ filter q xs else filter q xs) ≡ (if r x then x ∷ filter r xs else filter r xs)
+    by : filter p (filter q xs) ≡ filter r xs → (c : Bool) → p x ≡ c → (d : Bool) → q x ≡ d → r x ≡ (q x && p x) →
+        filter p (if d then x ∷ filter q xs else filter q xs) ≡ (if r x then x ∷ filter r xs else filter r xs)
     by rest true is true also both = let e : r x ≡ true = both ∙ (rw (also, is) refl) in rw (is, e) (ap (λ ys. x ∷ ys) rest)
     by rest false is true also both = let e : r x ≡ false = both ∙ (rw (also, is) refl) in rw (is, e) rest
     by rest true is false also both = let e : r x ≡ false = both ∙ (rw also refl) in rw e rest
@@ -75,8 +78,10 @@ module _ (sc : Scene) (id : NodeId) (sound : IsSound sc) (i : MapInvariant sc) w
   fewer_at : (k : NodeId) (v : TopVer) → filter stays (singles_at sc.recs k v) ≡ singles_at after k v
   fewer_at k v =
       filter_both stays lived (λ (x : Single). not (is_lost after x.from)) (flat_map (single_in v) (recs_of k sc.recs))
-      (λ x. ap not (lost_now x.from) ∙ by (is_lost sc.recs x.from) (same_node id x.from) (same_node x.from id) (turned id x.from))
-      ∙ ap (filter (λ (x : Single). not (is_lost after x.from))) (sym (append_none (flat_map (single_in v) (recs_of k sc.recs))) ∙ sym (of_parts (single_in v) k sc.recs more))
+      (λ x. ap not (lost_now x.from) ∙ by (is_lost sc.recs x.from) (same_node id x.from) (same_node x.from id)
+      (turned id x.from))
+      ∙ ap (filter (λ (x : Single). not (is_lost after x.from)))
+      (sym (append_none (flat_map (single_in v) (recs_of k sc.recs))) ∙ sym (of_parts (single_in v) k sc.recs more))
     where
       by : (a b c : Bool) → b ≡ c → not (a || b) ≡ (not a && not c)
       by true b c same = refl
@@ -87,15 +92,21 @@ module _ (sc : Scene) (id : NodeId) (sound : IsSound sc) (i : MapInvariant sc) w
 
   -- what is left at another node
   left_singles : (k : NodeId) → same_node id k ≡ false → is_lost sc.recs k ≡ false → (v : TopVer)
-      → singles_of_version v (state_after_loss id (is_survivor id k (sc.life k)) (sc.state k)).singles ≡ filter stays (singles_of_version v (sc.state k).singles)
+      → singles_of_version v (state_after_loss id (is_survivor id k (sc.life k)) (sc.state k)).singles ≡ filter stays
+      (singles_of_version v (sc.state k).singles)
   left_singles k other lives v = by (sc.life k) refl
     where
-      by : (at : Life) → sc.life k ≡ at → singles_of_version v (state_after_loss id (is_survivor id k (sc.life k)) (sc.state k)).singles ≡ filter stays (singles_of_version v (sc.state k).singles)
-      by life.Alive at = ap (λ (c : Bool). singles_of_version v (state_after_loss id c (sc.state k)).singles) (ap (is_survivor id k) at ∙ ap (λ (c : Bool). if c then false else true) other)
+      by : (at : Life) → sc.life k ≡ at →
+          singles_of_version v (state_after_loss id (is_survivor id k (sc.life k)) (sc.state k)).singles ≡ filter stays
+          (singles_of_version v (sc.state k).singles)
+      by life.Alive at = ap (λ (c : Bool). singles_of_version v (state_after_loss id c (sc.state k)).singles)
+          (ap (is_survivor id k) at ∙ ap (λ (c : Bool). if c then false else true) other)
           ∙ filter_swap (λ (x : Single). same_top x.top v) stays (sc.state k).singles
       by life.Absent at =
-          ap (λ (c : Bool). singles_of_version v (state_after_loss id c (sc.state k)).singles) (ap (is_survivor id k) at ∙ ap (λ (c : Bool). if c then false else false) other)
-          ∙ ap (λ (xs : List Single). singles_of_version v xs) none ∙ sym (ap (λ (xs : List Single). filter stays (singles_of_version v xs)) none)
+          ap (λ (c : Bool). singles_of_version v (state_after_loss id c (sc.state k)).singles) (ap (is_survivor id k) at
+          ∙ ap (λ (c : Bool). if c then false else false) other)
+          ∙ ap (λ (xs : List Single). singles_of_version v xs) none
+          ∙ sym (ap (λ (xs : List Single). filter stays (singles_of_version v xs)) none)
         where
           none : (sc.state k).singles ≡ []
           none = ap (λ (st : NodeState). st.singles) (sound.absent_fresh k at)
@@ -108,9 +119,12 @@ module _ (sc : Scene) (id : NodeId) (sound : IsSound sc) (i : MapInvariant sc) w
         let n = i.nodes k before.0 in
         record {
           caches_are = n.caches_are;
-          singles_are = λ v above. left_singles k before.1 before.0 v ∙ ap (filter stays) (n.singles_are v above) ∙ fewer_at k v;
-          has_last = subst (λ (ms : List PartMap). HoldsOfEach (λ (m : PartMap). HasAtLeast m.top (sc.state k).installed) ms) (sym (same_maps k)) n.has_last;
+          singles_are = λ v above. left_singles k before.1 before.0 v ∙ ap (filter stays) (n.singles_are v above)
+              ∙ fewer_at k v;
+          has_last = subst (λ (ms : List PartMap). HoldsOfEach (λ (m : PartMap). HasAtLeast m.top (sc.state k).installed) ms)
+              (sym (same_maps k)) n.has_last;
           has_first = n.has_first;
         };
-    maps = events_more sc.scenario sc.directory.events (topo.Left id ∷ []) [] after (noted_parts sc.scenario sc.directory.events [] sc.recs more i.maps (tt, (tt, tt)));
+    maps = events_more sc.scenario sc.directory.events (topo.Left id ∷ []) [] after
+        (noted_parts sc.scenario sc.directory.events [] sc.recs more i.maps (tt, (tt, tt)));
   }

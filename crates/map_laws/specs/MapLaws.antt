@@ -80,7 +80,8 @@ installs_on_highest s ts before r = true
 -- installed
 abbrev pub highest_bases : Journal → Bool
 highest_bases j = let ts = topologies j in
-    each_record (λ (before : List Noted) (n : Noted). installs_on_highest j.scenario ts before n.rec) (noted j.scenario j.groups)
+    each_record (λ (before : List Noted) (n : Noted). installs_on_highest j.scenario ts before n.rec)
+    (noted j.scenario j.groups)
 
 -- Maps rise.
 
@@ -97,7 +98,8 @@ abbrev pub installs_above : Scenario → List Noted → Option NodeId → Rec �
 installs_above s before who (note.Install m) = is_above_earlier s before m who
 installs_above s before who r = true
 
--- each map that a node installs has a higher version than those that it installed before, and, at an initial node, than the first
+-- each map that a node installs has a higher version than those that it installed before, and, at an initial node, than the
+-- first
 abbrev pub rising_maps : Journal → Bool
 rising_maps j =
     each_record (λ (before : List Noted) (n : Noted). installs_above j.scenario before n.node n.rec) (noted j.scenario j.groups)

@@ -46,7 +46,8 @@ module _ (same : Key → Key → Bool) (laws : IsEquivalence same) (exact : (a b
   -- once the key was found, no later entry has it
   none_later : (e : Key × Kept) (es : List (Key × Kept)) → same k e.0 ≡ true → IsDistinct same (keys_of (e ∷ es)) → NoneHas es
   none_later e es h d =
-      subst (λ j. AllByRecursion (λ y. same j y ≡ false) (keys_of es)) (sym (exact k e.0 h)) (IsDistinct-head same e.0 (keys_of es) d)
+      subst (λ j. AllByRecursion (λ y. same j y ≡ false) (keys_of es)) (sym (exact k e.0 h))
+      (IsDistinct-head same e.0 (keys_of es) d)
 
   lookup_none : (es : List (Key × Kept)) → NoneHas es → lookup_entry (same k) es ≡ None
   lookup_none [] none = refl
@@ -61,80 +62,113 @@ module _ (same : Key → Key → Bool) (laws : IsEquivalence same) (exact : (a b
 
   pub renew_none : (es : List (Key × Kept)) (w : Kept) → lookup (same k) es ≡ None → set_value (same k) es w ≡ es
   renew_none [] w none = refl
-  renew_none (e ∷ es) w none = (elim (same k e.0) as (λ b. same k e.0 ≡ b → cond b ((e.0, w) ∷ es) (e ∷ set_value (same k) es w) ≡ e ∷ es) [
-    | true ↦ λ h. let none' = rw h at none in absurd (cc)
-    | false ↦ λ h. ap (λ r. e ∷ r) (renew_none es w (rw h at none))
-  ]) refl
+  renew_none (e ∷ es) w none =
+      (elim (same k e.0) as (λ b. same k e.0 ≡ b → cond b ((e.0, w) ∷ es) (e ∷ set_value (same k) es w) ≡ e ∷ es) [
+        | true ↦ λ h. let none' = rw h at none in absurd (cc)
+        | false ↦ λ h. ap (λ r. e ∷ r) (renew_none es w (rw h at none))
+      ]) refl
 
-  length_remove : (es : List (Key × Kept)) (x : Key × Kept) → lookup_entry (same k) es ≡ Some x → length (remove_entry (same k) es) + 1 ≡ length es
+  length_remove : (es : List (Key × Kept)) (x : Key × Kept) → lookup_entry (same k) es ≡ Some x →
+      length (remove_entry (same k) es) + 1 ≡ length es
   length_remove [] x found = absurd (cc)
-  length_remove (e ∷ es) x found = (elim (same k e.0) as (λ b. same k e.0 ≡ b → length (cond b es (e ∷ remove_entry (same k) es)) + 1 ≡ length (e ∷ es)) [
-    | true ↦ λ h. omega arith
-    | false ↦ λ h. omega (arith, length_remove es x (rw h at found))
-  ]) refl
+  length_remove (e ∷ es) x found =
+      (elim (same k e.0) as (λ b. same k e.0 ≡ b → length (cond b es (e ∷ remove_entry (same k) es)) + 1 ≡ length (e ∷ es)) [
+        | true ↦ λ h. omega arith
+        | false ↦ λ h. omega (arith, length_remove es x (rw h at found))
+      ]) refl
 
   -- a look-up by key
-  entry_at : (es : List (Key × Kept)) → find (λ (n : NearEntry). same n.key k) (near_entries es) ≡ option_map near_entry_of (lookup_entry (same k) es)
+  entry_at : (es : List (Key × Kept)) → find (λ (n : NearEntry). same n.key k) (near_entries es) ≡ option_map near_entry_of
+      (lookup_entry (same k) es)
   entry_at [] = refl
-  entry_at (e ∷ es) = (elim (same k e.0) as (λ b. same k e.0 ≡ b → find (λ (n : NearEntry). same n.key k) (near_entries (e ∷ es)) ≡ option_map near_entry_of (cond b (Some e) (lookup_entry (same k) es))) [
-    | true ↦ λ h. rw (laws.symm e.0 k ∙ h)
-    | false ↦ λ h. rw (laws.symm e.0 k ∙ h) (entry_at es)
-  ]) refl
+  entry_at (e ∷ es) = (elim (same k e.0) as (λ b. same k e.0 ≡ b →
+      find (λ (n : NearEntry). same n.key k) (near_entries (e ∷ es)) ≡ option_map near_entry_of
+      (cond b (Some e) (lookup_entry (same k) es))) [
+        | true ↦ λ h. rw (laws.symm e.0 k ∙ h)
+        | false ↦ λ h. rw (laws.symm e.0 k ∙ h) (entry_at es)
+      ]) refl
 
-  pub hit_at : (es : List (Key × Kept)) → option_map {U = List ℕ × CacheVersion} (λ (n : NearEntry). (n.value, n.ver)) (find (λ (n : NearEntry). same n.key k) (near_entries es)) ≡ option_map {U = List ℕ × CacheVersion} (λ (v : Kept). (v.value, v.ver)) (lookup (same k) es)
+  pub hit_at : (es : List (Key × Kept)) → option_map {U = List ℕ × CacheVersion} (λ (n : NearEntry). (n.value, n.ver))
+      (find (λ (n : NearEntry). same n.key k) (near_entries es)) ≡ option_map {U = List ℕ × CacheVersion}
+      (λ (v : Kept). (v.value, v.ver)) (lookup (same k) es)
   hit_at [] = refl
-  hit_at (e ∷ es) = (elim (same k e.0) as (λ b. same k e.0 ≡ b → option_map {U = List ℕ × CacheVersion} (λ (n : NearEntry). (n.value, n.ver)) (find (λ (n : NearEntry). same n.key k) (near_entries (e ∷ es))) ≡ option_map {U = List ℕ × CacheVersion} (λ (v : Kept). (v.value, v.ver)) (cond b (Some e.1) (lookup (same k) es))) [
-    | true ↦ λ h. rw (laws.symm e.0 k ∙ h)
-    | false ↦ λ h. rw (laws.symm e.0 k ∙ h) (hit_at es)
-  ]) refl
+  hit_at (e ∷ es) = (elim (same k e.0) as (λ b. same k e.0 ≡ b →
+      option_map {U = List ℕ × CacheVersion} (λ (n : NearEntry). (n.value, n.ver))
+      (find (λ (n : NearEntry). same n.key k) (near_entries (e ∷ es))) ≡ option_map {U = List ℕ × CacheVersion}
+      (λ (v : Kept). (v.value, v.ver)) (cond b (Some e.1) (lookup (same k) es))) [
+        | true ↦ λ h. rw (laws.symm e.0 k ∙ h)
+        | false ↦ λ h. rw (laws.symm e.0 k ∙ h) (hit_at es)
+      ]) refl
 
-  pub found_at : (es : List (Key × Kept)) → find (λ (n : NearEntry). same n.key k) (near_entries es) ≡ option_map (λ (v : Kept). near_entry_of (k, v)) (lookup (same k) es)
+  pub found_at : (es : List (Key × Kept)) → find (λ (n : NearEntry). same n.key k) (near_entries es) ≡ option_map
+      (λ (v : Kept). near_entry_of (k, v)) (lookup (same k) es)
   found_at [] = refl
-  found_at (e ∷ es) = (elim (same k e.0) as (λ b. same k e.0 ≡ b → find (λ (n : NearEntry). same n.key k) (near_entries (e ∷ es)) ≡ option_map (λ (v : Kept). near_entry_of (k, v)) (cond b (Some e.1) (lookup (same k) es))) [
-    | true ↦ λ h. rw (laws.symm e.0 k ∙ h) (ap (λ j. Some (near_entry_of (j, e.1))) (sym (exact k e.0 h)))
-    | false ↦ λ h. rw (laws.symm e.0 k ∙ h) (found_at es)
-  ]) refl
+  found_at (e ∷ es) = (elim (same k e.0) as (λ b. same k e.0 ≡ b →
+      find (λ (n : NearEntry). same n.key k) (near_entries (e ∷ es)) ≡ option_map (λ (v : Kept). near_entry_of (k, v))
+      (cond b (Some e.1) (lookup (same k) es))) [
+        | true ↦ λ h. rw (laws.symm e.0 k ∙ h) (ap (λ j. Some (near_entry_of (j, e.1))) (sym (exact k e.0 h)))
+        | false ↦ λ h. rw (laws.symm e.0 k ∙ h) (found_at es)
+      ]) refl
 
   -- the entries of other keys
-  all_others : (es : List (Key × Kept)) → NoneHas es → filter (λ (n : NearEntry). not (same n.key k)) (near_entries es) ≡ near_entries es
+  all_others : (es : List (Key × Kept)) → NoneHas es → filter (λ (n : NearEntry). not (same n.key k)) (near_entries es)
+      ≡ near_entries es
   all_others [] none = refl
   all_others (e ∷ es) none = rw (laws.symm e.0 k ∙ none.0) (ap (λ r. near_entry_of e ∷ r) (all_others es none.1))
 
-  others : (es : List (Key × Kept)) → IsDistinct same (keys_of es) → filter (λ (n : NearEntry). not (same n.key k)) (near_entries es) ≡ near_entries (remove_entry (same k) es)
+  others : (es : List (Key × Kept)) → IsDistinct same (keys_of es) →
+      filter (λ (n : NearEntry). not (same n.key k)) (near_entries es) ≡ near_entries (remove_entry (same k) es)
   others [] d = refl
-  others (e ∷ es) d = (elim (same k e.0) as (λ b. same k e.0 ≡ b → filter (λ (n : NearEntry). not (same n.key k)) (near_entries (e ∷ es)) ≡ near_entries (cond b es (e ∷ remove_entry (same k) es))) [
-    | true ↦ λ h. rw (laws.symm e.0 k ∙ h) (all_others es (none_later e es h d))
-    | false ↦ λ h. rw (laws.symm e.0 k ∙ h) (ap (λ r. near_entry_of e ∷ r) (others es (IsDistinct-tail same e.0 (keys_of es) d)))
-  ]) refl
+  others (e ∷ es) d = (elim (same k e.0) as (λ b. same k e.0 ≡ b →
+      filter (λ (n : NearEntry). not (same n.key k)) (near_entries (e ∷ es)) ≡ near_entries
+      (cond b es (e ∷ remove_entry (same k) es))) [
+        | true ↦ λ h. rw (laws.symm e.0 k ∙ h) (all_others es (none_later e es h d))
+        | false ↦ λ h. rw (laws.symm e.0 k ∙ h)
+            (ap (λ r. near_entry_of e ∷ r) (others es (IsDistinct-tail same e.0 (keys_of es) d)))
+      ]) refl
 
-  front_at : (es : List (Key × Kept)) (o : Option (Key × Kept)) → IsDistinct same (keys_of es) → lookup_entry (same k) es ≡ o → option_map_or (λ (n : NearEntry). n ∷ filter (λ (m : NearEntry). not (same m.key n.key)) (near_entries es)) (option_map near_entry_of o) (near_entries es) ≡ near_entries (option_map_or (λ e. e ∷ remove_entry (same k) es) o es)
+  front_at : (es : List (Key × Kept)) (o : Option (Key × Kept)) → IsDistinct same (keys_of es) →
+      lookup_entry (same k) es ≡ o →
+      option_map_or (λ (n : NearEntry). n ∷ filter (λ (m : NearEntry). not (same m.key n.key)) (near_entries es))
+      (option_map near_entry_of o) (near_entries es) ≡ near_entries (option_map_or (λ e. e ∷ remove_entry (same k) es) o es)
   front_at es None d found = refl
   front_at es (Some e) d found =
       let key : k ≡ e.0 = exact k e.0 (Contains-lookup_entry (same k) es e found).1 in
-      ap (λ r. near_entry_of e ∷ r) (subst (λ j. filter (λ (m : NearEntry). not (same m.key j)) (near_entries es) ≡ near_entries (remove_entry (same k) es)) key (others es d))
+      ap (λ r. near_entry_of e ∷ r)
+      (subst (λ j. filter (λ (m : NearEntry). not (same m.key j)) (near_entries es) ≡ near_entries
+      (remove_entry (same k) es)) key (others es d))
 
   -- the entry of the key comes to the front
-  pub front : (es : List (Key × Kept)) → IsDistinct same (keys_of es) → option_map_or (λ (n : NearEntry). n ∷ filter (λ (m : NearEntry). not (same m.key n.key)) (near_entries es)) (find (λ (n : NearEntry). same n.key k) (near_entries es)) (near_entries es) ≡ near_entries (promoted (same k) es)
+  pub front : (es : List (Key × Kept)) → IsDistinct same (keys_of es) →
+      option_map_or (λ (n : NearEntry). n ∷ filter (λ (m : NearEntry). not (same m.key n.key)) (near_entries es))
+      (find (λ (n : NearEntry). same n.key k) (near_entries es)) (near_entries es) ≡ near_entries (promoted (same k) es)
   front es d = rw (entry_at es) (front_at es (lookup_entry (same k) es) d refl)
 
-  put_at : (es : List (Key × Kept)) (v : Kept) (m : ℕ) (o : Option (Key × Kept)) → length es ≤ suc m → lookup_entry (same k) es ≡ o → near_entry_of (k, v) ∷ take m (near_entries (remove_entry (same k) es)) ≡ near_entries (option_map_or (λ e. (e.0, v) ∷ remove_entry (same k) es) o ((k, v) ∷ take m es))
+  put_at : (es : List (Key × Kept)) (v : Kept) (m : ℕ) (o : Option (Key × Kept)) → length es ≤ suc m →
+      lookup_entry (same k) es ≡ o → near_entry_of (k, v) ∷ take m (near_entries (remove_entry (same k) es)) ≡ near_entries
+      (option_map_or (λ e. (e.0, v) ∷ remove_entry (same k) es) o ((k, v) ∷ take m es))
   put_at es v m None le found =
       ap (λ r. near_entry_of (k, v) ∷ r) (rw (remove_none es found) (sym (near_entries_take m es)))
   put_at es v m (Some e) le found =
       let key : k ≡ e.0 = exact k e.0 (Contains-lookup_entry (same k) es e found).1 in
-      let room : length (near_entries (remove_entry (same k) es)) ≤ m = omega (arith, near_entries_length (remove_entry (same k) es), length_remove es e found) in
-      subst (λ j. near_entry_of (k, v) ∷ take m (near_entries (remove_entry (same k) es)) ≡ near_entry_of (j, v) ∷ near_entries (remove_entry (same k) es)) key
+      let room : length (near_entries (remove_entry (same k) es)) ≤ m =
+      omega (arith, near_entries_length (remove_entry (same k) es), length_remove es e found) in
+      subst (λ j. near_entry_of (k, v) ∷ take m (near_entries (remove_entry (same k) es)) ≡ near_entry_of (j, v)
+      ∷ near_entries (remove_entry (same k) es)) key
       (ap (λ r. near_entry_of (k, v) ∷ r) (take_all m (near_entries (remove_entry (same k) es)) room))
 
   -- an entry is put in front
-  pub put_front : (es : List (Key × Kept)) (v : Kept) (size : ℕ) → IsDistinct same (keys_of es) → length es ≤ size → 0 < size → take size (near_entry_of (k, v) ∷ filter (λ (n : NearEntry). not (same n.key k)) (near_entries es)) ≡ near_entries (put_entries same (lru_cache es size) k v)
+  pub put_front : (es : List (Key × Kept)) (v : Kept) (size : ℕ) → IsDistinct same (keys_of es) → length es ≤ size →
+      0 < size → take size (near_entry_of (k, v) ∷ filter (λ (n : NearEntry). not (same n.key k)) (near_entries es))
+      ≡ near_entries (put_entries same (lru_cache es size) k v)
   put_front es v zero d le room = absurd (omega arith)
   put_front es v (suc m) d le room =
       let less : suc m - 1 ≡ m = omega arith in
       rw (less, others es d) (put_at es v m (lookup_entry (same k) es) le refl)
 
   -- an entry whose key no other one has is put in front of a cache with room
-  pub put_new : (es : List (Key × Kept)) (v : Kept) (size : ℕ) → NoneHas es → length es < size → put_entries same (lru_cache es size) k v ≡ (k, v) ∷ es
+  pub put_new : (es : List (Key × Kept)) (v : Kept) (size : ℕ) → NoneHas es → length es < size →
+      put_entries same (lru_cache es size) k v ≡ (k, v) ∷ es
   put_new es v size none room =
       let all : take (size - 1) es ≡ es = take_all (size - 1) es (omega arith) in
       rw (lookup_none es none) (ap (λ r. (k, v) ∷ r) all)
@@ -146,26 +180,34 @@ module _ (same : Key → Key → Bool) (laws : IsEquivalence same) (exact : (a b
     abbrev older_at : List (Key × Kept) → Bool
     older_at es = option_map_or (λ (v : Kept). lower v.ver) (lookup (same k) es) false
 
-    none_removed : (es : List (Key × Kept)) → NoneHas es → filter (λ (n : NearEntry). not (is_older n)) (near_entries es) ≡ near_entries es
+    none_removed : (es : List (Key × Kept)) → NoneHas es → filter (λ (n : NearEntry). not (is_older n)) (near_entries es)
+        ≡ near_entries es
     none_removed [] none = refl
     none_removed (e ∷ es) none = rw (laws.symm e.0 k ∙ none.0) (ap (λ r. near_entry_of e ∷ r) (none_removed es none.1))
 
     -- a removal takes an older entry out
-    pub removal : (es : List (Key × Kept)) → IsDistinct same (keys_of es) → filter (λ (n : NearEntry). not (is_older n)) (near_entries es) ≡ cond (older_at es) (near_entries (remove_entry (same k) es)) (near_entries es)
+    pub removal : (es : List (Key × Kept)) → IsDistinct same (keys_of es) →
+        filter (λ (n : NearEntry). not (is_older n)) (near_entries es) ≡ cond (older_at es)
+        (near_entries (remove_entry (same k) es)) (near_entries es)
     removal [] d = refl
-    removal (e ∷ es) d = (elim (same k e.0) as (λ b. same k e.0 ≡ b → filter (λ (n : NearEntry). not (is_older n)) (near_entries (e ∷ es)) ≡ cond (option_map_or (λ (v : Kept). lower v.ver) (cond b (Some e.1) (lookup (same k) es)) false) (near_entries (cond b es (e ∷ remove_entry (same k) es))) (near_entries (e ∷ es))) [
-      | true ↦ λ h.
-          let rest = none_removed es (none_later e es h d) in
-          rw (laws.symm e.0 k ∙ h)
-          (elim (lower e.1.ver) as (λ b. cond (not b) (near_entry_of e ∷ filter (λ (n : NearEntry). not (is_older n)) (near_entries es)) (filter (λ (n : NearEntry). not (is_older n)) (near_entries es)) ≡ cond b (near_entries es) (near_entries (e ∷ es))) [
-            | true ↦ rest
-            | false ↦ ap (λ r. near_entry_of e ∷ r) rest
-          ])
-      | false ↦ λ h.
-          rw (laws.symm e.0 k ∙ h)
-          (ap (λ r. near_entry_of e ∷ r) (removal es (IsDistinct-tail same e.0 (keys_of es) d))
-          ∙ under_cond (λ r. near_entry_of e ∷ r) (older_at es) (near_entries (remove_entry (same k) es)) (near_entries es))
-    ]) refl
+    removal (e ∷ es) d = (elim (same k e.0) as (λ b. same k e.0 ≡ b →
+        filter (λ (n : NearEntry). not (is_older n)) (near_entries (e ∷ es))
+        ≡ cond (option_map_or (λ (v : Kept). lower v.ver) (cond b (Some e.1) (lookup (same k) es)) false)
+        (near_entries (cond b es (e ∷ remove_entry (same k) es))) (near_entries (e ∷ es))) [
+          | true ↦ λ h.
+              let rest = none_removed es (none_later e es h d) in
+              rw (laws.symm e.0 k ∙ h)
+              (elim (lower e.1.ver) as (λ b. cond (not b) (near_entry_of e ∷ filter (λ (n : NearEntry). not (is_older n))
+              (near_entries es)) (filter (λ (n : NearEntry). not (is_older n)) (near_entries es)) ≡ cond b (near_entries es)
+              (near_entries (e ∷ es))) [
+                | true ↦ rest
+                | false ↦ ap (λ r. near_entry_of e ∷ r) rest
+              ])
+          | false ↦ λ h.
+              rw (laws.symm e.0 k ∙ h)
+              (ap (λ r. near_entry_of e ∷ r) (removal es (IsDistinct-tail same e.0 (keys_of es) d))
+              ∙ under_cond (λ r. near_entry_of e ∷ r) (older_at es) (near_entries (remove_entry (same k) es)) (near_entries es))
+        ]) refl
 
     module _ (w : Kept) where
       abbrev renewed_at : NearEntry → NearEntry
@@ -176,19 +218,24 @@ module _ (same : Key → Key → Bool) (laws : IsEquivalence same) (exact : (a b
       none_renewed (e ∷ es) none = rw (laws.symm e.0 k ∙ none.0) (ap (λ r. near_entry_of e ∷ r) (none_renewed es none.1))
 
       -- an update renews an older entry at its place
-      pub renewal : (es : List (Key × Kept)) → IsDistinct same (keys_of es) → map renewed_at (near_entries es) ≡ cond (older_at es) (near_entries (set_value (same k) es w)) (near_entries es)
+      pub renewal : (es : List (Key × Kept)) → IsDistinct same (keys_of es) →
+          map renewed_at (near_entries es) ≡ cond (older_at es) (near_entries (set_value (same k) es w)) (near_entries es)
       renewal [] d = refl
-      renewal (e ∷ es) d = (elim (same k e.0) as (λ b. same k e.0 ≡ b → map renewed_at (near_entries (e ∷ es)) ≡ cond (option_map_or (λ (v : Kept). lower v.ver) (cond b (Some e.1) (lookup (same k) es)) false) (near_entries (cond b ((e.0, w) ∷ es) (e ∷ set_value (same k) es w))) (near_entries (e ∷ es))) [
-        | true ↦ λ h.
-            let rest = none_renewed es (none_later e es h d) in
-            let key : k ≡ e.0 = exact k e.0 h in
-            rw (laws.symm e.0 k ∙ h)
-            (elim (lower e.1.ver) as (λ b. cond b (near_entry_of (k, w)) (near_entry_of e) ∷ map renewed_at (near_entries es) ≡ cond b (near_entries ((e.0, w) ∷ es)) (near_entries (e ∷ es))) [
-              | true ↦ subst (λ j. near_entry_of (k, w) ∷ map renewed_at (near_entries es) ≡ near_entry_of (j, w) ∷ near_entries es) key (ap (λ r. near_entry_of (k, w) ∷ r) rest)
-              | false ↦ ap (λ r. near_entry_of e ∷ r) rest
-            ])
-        | false ↦ λ h.
-            rw (laws.symm e.0 k ∙ h)
-            (ap (λ r. near_entry_of e ∷ r) (renewal es (IsDistinct-tail same e.0 (keys_of es) d))
-            ∙ under_cond (λ r. near_entry_of e ∷ r) (older_at es) (near_entries (set_value (same k) es w)) (near_entries es))
-      ]) refl
+      renewal (e ∷ es) d = (elim (same k e.0) as (λ b. same k e.0 ≡ b → map renewed_at (near_entries (e ∷ es))
+          ≡ cond (option_map_or (λ (v : Kept). lower v.ver) (cond b (Some e.1) (lookup (same k) es)) false)
+          (near_entries (cond b ((e.0, w) ∷ es) (e ∷ set_value (same k) es w))) (near_entries (e ∷ es))) [
+            | true ↦ λ h.
+                let rest = none_renewed es (none_later e es h d) in
+                let key : k ≡ e.0 = exact k e.0 h in
+                rw (laws.symm e.0 k ∙ h)
+                (elim (lower e.1.ver) as (λ b. cond b (near_entry_of (k, w)) (near_entry_of e) ∷ map renewed_at (near_entries es)
+                ≡ cond b (near_entries ((e.0, w) ∷ es)) (near_entries (e ∷ es))) [
+                  | true ↦ subst (λ j. near_entry_of (k, w) ∷ map renewed_at (near_entries es) ≡ near_entry_of (j, w)
+                      ∷ near_entries es) key (ap (λ r. near_entry_of (k, w) ∷ r) rest)
+                  | false ↦ ap (λ r. near_entry_of e ∷ r) rest
+                ])
+            | false ↦ λ h.
+                rw (laws.symm e.0 k ∙ h)
+                (ap (λ r. near_entry_of e ∷ r) (renewal es (IsDistinct-tail same e.0 (keys_of es) d))
+                ∙ under_cond (λ r. near_entry_of e ∷ r) (older_at es) (near_entries (set_value (same k) es w)) (near_entries es))
+          ]) refl

@@ -24,10 +24,12 @@ AllAbove cmp x (k ∷ ks) = (cmp k x ≡ Greater) × AllAbove cmp x ks
 
 module _ {K V : Type 0} (cmp : K → K → Ordering) (o : IsTotalOrder cmp) where
   -- a value that is put where it was changes nothing
-  put_same : ((a b : K) → cmp a b ≡ Equal → a ≡ b) → (es : List (K × V)) (k : K) (v : V) → at cmp es k ≡ Some v → put cmp es k v ≡ es
+  put_same : ((a b : K) → cmp a b ≡ Equal → a ≡ b) → (es : List (K × V)) (k : K) (v : V) → at cmp es k ≡ Some v →
+      put cmp es k v ≡ es
   put_same exact [] k v some = absurd (cc)
   put_same exact (e ∷ es) k v some =
-      (elim (cmp k e.0) as (λ r. cmp k e.0 ≡ r → match_ordering r None (Some e.1) (at cmp es k) ≡ Some v → match_ordering r ((k, v) ∷ e ∷ es) ((k, v) ∷ es) (e ∷ put cmp es k v) ≡ e ∷ es) [
+      (elim (cmp k e.0) as (λ r. cmp k e.0 ≡ r → match_ordering r None (Some e.1) (at cmp es k) ≡ Some v →
+      match_ordering r ((k, v) ∷ e ∷ es) ((k, v) ∷ es) (e ∷ put cmp es k v) ≡ e ∷ es) [
         | Less ↦ λ g h. absurd (cc)
         | Equal ↦ λ g h.
             let value : e.1 ≡ v = cc in
@@ -35,13 +37,15 @@ module _ {K V : Type 0} (cmp : K → K → Ordering) (o : IsTotalOrder cmp) wher
         | Greater ↦ λ g h. ap (λ r. e ∷ r) (put_same exact es k v h)
       ]) refl some
 
-  above : (x : K) (es : List (K × V)) (i : ℕ) (k : K) → IsBelowAll cmp x es → i < length (keys_of es) → k ≡ get_or (keys_of es) i k → cmp k x ≡ Greater
+  above : (x : K) (es : List (K × V)) (i : ℕ) (k : K) → IsBelowAll cmp x es → i < length (keys_of es) →
+      k ≡ get_or (keys_of es) i k → cmp k x ≡ Greater
   above x [] i k below l here = absurd (omega arith)
   above x (e ∷ es) zero k below l here = rw here (o.antisymm e.0 x ∙ ap ordering_reverse below.0)
   above x (e ∷ es) (suc i) k below l here = above x es i k below.1 (omega arith) here
 
   -- the entry of the next key comes to the end of a copy
-  pub put_in_order : (es : List (K × V)) (i : ℕ) (k : K) (v : V) → IsAscending cmp es → i < length (keys_of es) → k ≡ get_or (keys_of es) i k → at cmp es k ≡ Some v → put cmp (take i es) k v ≡ take (suc i) es
+  pub put_in_order : (es : List (K × V)) (i : ℕ) (k : K) (v : V) → IsAscending cmp es → i < length (keys_of es) →
+      k ≡ get_or (keys_of es) i k → at cmp es k ≡ Some v → put cmp (take i es) k v ≡ take (suc i) es
   put_in_order [] i k v ascending l here found = absurd (omega arith)
   put_in_order (e ∷ es) zero k v ascending l here found =
       let tied : cmp k e.0 ≡ Equal = rw here (tied_itself o e.0) in
@@ -70,26 +74,30 @@ module _ {K V : Type 0} (cmp : K → K → Ordering) (o : IsTotalOrder cmp) wher
     changed_next : (e : K × V) (es : List (K × V)) (k : K) → cmp k e.0 ≡ Greater → changed_at (e ∷ es) k ≡ e ∷ changed_at es k
     changed_next e es k greater = rw greater
 
-    changed_behind : (e : K × V) (es : List (K × V)) (ks : List K) → AllAbove cmp e.0 ks → changed_each (e ∷ es) ks ≡ e ∷ changed_each es ks
+    changed_behind : (e : K × V) (es : List (K × V)) (ks : List K) → AllAbove cmp e.0 ks →
+        changed_each (e ∷ es) ks ≡ e ∷ changed_each es ks
     changed_behind e es [] greater = refl
     changed_behind e es (k ∷ ks) greater =
         ap (λ (xs : List (K × V)). changed_each xs ks) (changed_next e es k greater.0)
         ∙ changed_behind e (changed_at es k) ks greater.1
 
     -- the values are changed one key after the other, as all at once
-    changed_all : (es : List (K × V)) → IsAscending cmp es → changed_each es (keys_in es) ≡ map (λ (e : K × V). (e.0, change e.1)) es
+    changed_all : (es : List (K × V)) → IsAscending cmp es →
+        changed_each es (keys_in es) ≡ map (λ (e : K × V). (e.0, change e.1)) es
     changed_all [] ascending = refl
     changed_all (e ∷ es) ascending =
         ap (λ (xs : List (K × V)). changed_each xs (keys_in es)) (changed_first e es)
         ∙ changed_behind (e.0, change e.1) es (keys_in es) (all_above e.0 es ascending.0)
         ∙ ap (λ r. (e.0, change e.1) ∷ r) (changed_all es ascending.1)
 
-gone_each : (readers : Readers) (ks : List Key) (node : NodeId) → without_reader_of_each readers ks node ≡ changed_each key_cmp key_total (λ (nodes : List NodeId). without_member node_cmp nodes node) [] readers ks
+gone_each : (readers : Readers) (ks : List Key) (node : NodeId) → without_reader_of_each readers ks node
+    ≡ changed_each key_cmp key_total (λ (nodes : List NodeId). without_member node_cmp nodes node) [] readers ks
 gone_each readers [] node = refl
 gone_each readers (k ∷ ks) node = gone_each (without_reader_of readers k node) ks node
 
 -- a lost node is taken out of the readers of each key
-pub reader_lost : (readers : Readers) (node : NodeId) → IsAscending key_cmp readers → without_reader readers node ≡ map (λ (e : Key × List NodeId). (e.0, without_member node_cmp e.1 node)) readers
+pub reader_lost : (readers : Readers) (node : NodeId) → IsAscending key_cmp readers →
+    without_reader readers node ≡ map (λ (e : Key × List NodeId). (e.0, without_member node_cmp e.1 node)) readers
 reader_lost readers node ascending =
     gone_each readers (keys_in readers) node
     ∙ changed_all key_cmp key_total (λ (nodes : List NodeId). without_member node_cmp nodes node) [] readers ascending
@@ -106,14 +114,19 @@ on_err (Err e) f h = f h
 pub readers_there : (readers : Readers) (k : Key) (nodes : List NodeId) → IsSome (at key_cmp (put key_cmp readers k nodes) k)
 readers_there readers k nodes = laws.put_there key_cmp key_total readers k nodes
 
-pub reader_added : (readers : Readers) (k : Key) (nodes vacant more : List NodeId) (node : NodeId) → at key_cmp readers k ≡ Some nodes → more ≡ with_member node_cmp nodes node → put key_cmp (put key_cmp readers k vacant) k more ≡ with_reader readers k node
+pub reader_added : (readers : Readers) (k : Key) (nodes vacant more : List NodeId) (node : NodeId) →
+    at key_cmp readers k ≡ Some nodes → more ≡ with_member node_cmp nodes node →
+    put key_cmp (put key_cmp readers k vacant) k more ≡ with_reader readers k node
 reader_added readers k nodes vacant more node was added =
     laws.put_put key_cmp key_total readers k vacant more ∙ rw (was, added) refl
 
-pub readers_unchanged : (readers : Readers) (k : Key) (nodes vacant : List NodeId) → at key_cmp readers k ≡ Some nodes → put key_cmp (put key_cmp readers k vacant) k nodes ≡ readers
+pub readers_unchanged : (readers : Readers) (k : Key) (nodes vacant : List NodeId) → at key_cmp readers k ≡ Some nodes →
+    put key_cmp (put key_cmp readers k vacant) k nodes ≡ readers
 readers_unchanged readers k nodes vacant was =
     laws.put_put key_cmp key_total readers k vacant nodes ∙ put_same key_cmp key_total exact_keys readers k nodes was
 
-pub readers_copied : (readers : Readers) (ks : List Key) (i : ℕ) (k : Key) (nodes : List NodeId) → IsAscending key_cmp readers → ks ≡ keys_of readers → i < length ks → k ≡ get_or ks i k → at key_cmp readers k ≡ Some nodes → put key_cmp (take i readers) k nodes ≡ take (i + 1) readers
+pub readers_copied : (readers : Readers) (ks : List Key) (i : ℕ) (k : Key) (nodes : List NodeId) →
+    IsAscending key_cmp readers → ks ≡ keys_of readers → i < length ks → k ≡ get_or ks i k →
+    at key_cmp readers k ≡ Some nodes → put key_cmp (take i readers) k nodes ≡ take (i + 1) readers
 readers_copied readers ks i k nodes ascending keys within here found =
     rw (add-one i) (put_in_order key_cmp key_total readers i k nodes ascending (rw keys at within) (rw keys at here) found)

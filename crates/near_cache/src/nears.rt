@@ -144,7 +144,8 @@ impl Nears {
     /// An entry is put in front of a near cache of this size; past the size the one that was used longest ago is dropped.
     #[tactic(auto, using(crate::proofs::CacheLaws::put_in_front))]
     pub fn put(&mut self, size: u32, entry: &NearEntry) -> Mem<()>
-        ensures { OnOk result (self.new ≡ with_near_at self.old entry.now.key (near_put size (near_at self.old entry.now.key) entry.now)) }
+        ensures { OnOk result (self.new ≡ with_near_at self.old entry.now.key
+            (near_put size (near_at self.old entry.now.key) entry.now)) }
     {
         let cache = entry.key.cache();
         let near = take_near(&mut self.caches, cache);
@@ -155,7 +156,8 @@ impl Nears {
     /// Changes the entry of the key at its place where its version is lower, or takes it out where the value was removed.
     #[tactic(auto, using(crate::proofs::CacheLaws::updated_there))]
     pub fn update(&mut self, key: &Key, new: Option<Value>, ver: CacheVersion) -> Mem<()>
-        ensures { OnOk result (self.new ≡ with_near_at self.old key.now (near_updated (near_at self.old key.now) key.now new ver)) }
+        ensures { OnOk result (self.new ≡ with_near_at self.old key.now
+            (near_updated (near_at self.old key.now) key.now new ver)) }
     {
         let cache = key.cache();
         let near = take_near(&mut self.caches, cache);

@@ -121,7 +121,8 @@ fn optimistic_read(
     key: &Key,
     primary: NodeId,
 ) -> Mem<()>
-    ensures { OnOk result (node.new ≡ after_optimistic_read node.old tx top block command.now key.now primary (near_entry (near_of node.old key.now) key.now)) }
+    ensures { OnOk result (node.new ≡ after_optimistic_read node.old tx top block command.now key.now primary
+        (near_entry (near_of node.old key.now) key.now)) }
 {
     match node.near_entry(key) {
         Some(entry) => {

@@ -19,7 +19,8 @@ module _ {K V : Type 0} (cmp : K → K → Ordering) (o : IsTotalOrder cmp) wher
   below_all-equal j k [] tied below = tt
   below_all-equal j k (e ∷ es) tied below = (o.congr j k e.0 tied ∙ below.0, below_all-equal j k es tied below.1)
 
-  below_all-put : (j : K) (es : List (K × V)) (k : K) (v : V) → cmp j k ≡ Less → IsBelowAll cmp j es → IsBelowAll cmp j (put cmp es k v)
+  below_all-put : (j : K) (es : List (K × V)) (k : K) (v : V) → cmp j k ≡ Less → IsBelowAll cmp j es →
+      IsBelowAll cmp j (put cmp es k v)
   below_all-put j [] k v less below = (less, tt)
   below_all-put j (e ∷ es) k v less below =
       elim (cmp k e.0) as (λ r. IsBelowAll cmp j (match_ordering r ((k, v) ∷ e ∷ es) ((k, v) ∷ es) (e ∷ put cmp es k v))) [
@@ -40,7 +41,8 @@ module _ {K V : Type 0} (cmp : K → K → Ordering) (o : IsTotalOrder cmp) wher
   pub ascending_put : (es : List (K × V)) (k : K) (v : V) → IsAscending cmp es → IsAscending cmp (put cmp es k v)
   ascending_put [] k v ascending = (tt, tt)
   ascending_put (e ∷ es) k v ascending =
-      elim (cmp k e.0) as (λ r. cmp k e.0 ≡ r → IsAscending cmp (match_ordering r ((k, v) ∷ e ∷ es) ((k, v) ∷ es) (e ∷ put cmp es k v))) [
+      elim (cmp k e.0) as (λ r. cmp k e.0 ≡ r →
+      IsAscending cmp (match_ordering r ((k, v) ∷ e ∷ es) ((k, v) ∷ es) (e ∷ put cmp es k v))) [
         | Less ↦ λ g. ((g, below_all-less k e.0 es g ascending.0), ascending)
         | Equal ↦ λ g. (below_all-equal k e.0 es g ascending.0, ascending.1)
         | Greater ↦ λ g. (below_all-put e.0 es k v (greater_back o k e.0 g) ascending.0, ascending_put es k v ascending.1)

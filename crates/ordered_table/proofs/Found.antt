@@ -15,18 +15,22 @@ use Rattle.ordered_table.proofs.Ascending.{ascending_put, ascending_without}
 
 module _ {K V : Type 0} (cmp : K → K → Ordering) (o : IsTotalOrder cmp) where
   -- a key below all others is below the one at each place
-  below_each : (k : K) (es : List (K × V)) → IsBelowAll cmp k es → (j : ℕ) (d : K × V) → j < length es → cmp k (get_or es j d).0 ≡ Less
+  below_each : (k : K) (es : List (K × V)) → IsBelowAll cmp k es → (j : ℕ) (d : K × V) → j < length es →
+      cmp k (get_or es j d).0 ≡ Less
   below_each k [] below j d within = absurd (omega arith)
   below_each k (e ∷ es) below zero d within = below.0
   below_each k (e ∷ es) below (suc j) d within = below_each k es below.1 j d (omega arith)
 
   -- the comparisons with a key rise along the entries
-  comparisons_rise : (es : List (K × V)) (k : K) → IsAscending cmp es → (i j : ℕ) (d : K × V) → i ≤ j → j < length es → ordering_index (cmp (get_or es i d).0 k) ≤ ordering_index (cmp (get_or es j d).0 k)
+  comparisons_rise : (es : List (K × V)) (k : K) → IsAscending cmp es → (i j : ℕ) (d : K × V) → i ≤ j → j < length es →
+      ordering_index (cmp (get_or es i d).0 k) ≤ ordering_index (cmp (get_or es j d).0 k)
   comparisons_rise [] k ascending i j d le within = absurd (omega arith)
   comparisons_rise (e ∷ es) k ascending zero zero d le within = omega arith
-  comparisons_rise (e ∷ es) k ascending zero (suc j) d le within = comparison_rises o e.0 _ k (below_each e.0 es ascending.0 j d (omega arith))
+  comparisons_rise (e ∷ es) k ascending zero (suc j) d le within =
+      comparison_rises o e.0 _ k (below_each e.0 es ascending.0 j d (omega arith))
   comparisons_rise (e ∷ es) k ascending (suc i) zero d le within = absurd (omega arith)
-  comparisons_rise (e ∷ es) k ascending (suc i) (suc j) d le within = comparisons_rise es k ascending.1 i j d (omega arith) (omega arith)
+  comparisons_rise (e ∷ es) k ascending (suc i) (suc j) d le within = comparisons_rise es k ascending.1 i j d (omega arith)
+      (omega arith)
 
   -- the entry at place i has the key
   record IsTiedAt (es : List (K × V)) (k : K) (i : ℕ) : Type 0 where
@@ -54,14 +58,16 @@ module _ {K V : Type 0} (cmp : K → K → Ordering) (o : IsTotalOrder cmp) wher
   tied_later e es k i below is =
       sym (o.congr _ k e.0 (is.tied e)) ∙ less_back o e.0 _ (below_each e.0 es below i e is.within)
 
-  found_value : (es : List (K × V)) (k : K) (i : ℕ) → IsAscending cmp es → IsTiedAt es k i → (d : K × V) → at cmp es k ≡ Some (get_or es i d).1
+  found_value : (es : List (K × V)) (k : K) (i : ℕ) → IsAscending cmp es → IsTiedAt es k i → (d : K × V) →
+      at cmp es k ≡ Some (get_or es i d).1
   found_value [] k i ascending is d = absurd (omega (arith, is.within))
   found_value (e ∷ es) k zero ascending is d = rw (tied_back o e.0 k (is.tied d))
   found_value (e ∷ es) k (suc i) ascending is d =
       let later = tied_tail e es k i is in
       rw (tied_later e es k i ascending.0 later) (found_value es k i ascending.1 later d)
 
-  found_write : (es : List (K × V)) (k : K) (i : ℕ) → IsAscending cmp es → IsTiedAt es k i → (v : V) → put cmp es k v ≡ set es i (k, v)
+  found_write : (es : List (K × V)) (k : K) (i : ℕ) → IsAscending cmp es → IsTiedAt es k i → (v : V) →
+      put cmp es k v ≡ set es i (k, v)
   found_write [] k i ascending is v = absurd (omega (arith, is.within))
   found_write (e ∷ es) k zero ascending is v = rw (tied_back o e.0 k (is.tied e))
   found_write (e ∷ es) k (suc i) ascending is v =
@@ -114,10 +120,12 @@ module _ {K V : Type 0} (cmp : K → K → Ordering) (o : IsTotalOrder cmp) wher
   }
 
   -- a key above the last one belongs at the end
-  pub above_last : (es : List (K × V)) (k : K) (x : K × V) → IsAscending cmp es → slice_get es (length es - 1) ≡ Some x → cmp x.0 k ≡ Less → IsMissing cmp es k (length es)
+  pub above_last : (es : List (K × V)) (k : K) (x : K × V) → IsAscending cmp es → slice_get es (length es - 1) ≡ Some x →
+      cmp x.0 k ≡ Less → IsMissing cmp es k (length es)
   above_last es k x ascending last less =
       let within = slice_get_within es (length es - 1) x last in
-      let read : (d : K × V) → get_or es (length es - 1) d ≡ x = λ d. let e = slice_get-get_or es (length es - 1) d within in cc in
+      let read : (d : K × V) → get_or es (length es - 1) d ≡ x = λ d. let e = slice_get-get_or es (length es - 1) d within in
+      cc in
       missing es k (length es) ascending (record {
         within = omega arith;
         below = λ j d lt. least_is_less _ (
@@ -128,7 +136,9 @@ module _ {K V : Type 0} (cmp : K → K → Ordering) (o : IsTotalOrder cmp) wher
       })
 
   -- a binary search ends at the key, or where it belongs
-  pub searched : (es : List (K × V)) (k : K) → IsAscending cmp es → (r : Result ℕ ℕ) → IsSearchInRange r (length es) → IsBinarySearchResult (λ e. cmp e.0 k) es r → record { found : IfOk r (IsFound cmp es k); missing : IfErr r (IsMissing cmp es k) }
+  pub searched : (es : List (K × V)) (k : K) → IsAscending cmp es → (r : Result ℕ ℕ) → IsSearchInRange r (length es) →
+      IsBinarySearchResult (λ e. cmp e.0 k) es r →
+      record { found : IfOk r (IsFound cmp es k); missing : IfErr r (IsMissing cmp es k) }
   searched es k ascending (Ok i) within tied = record {
     found = found es k i ascending (record { within = within; tied = tied });
     missing = tt;

@@ -14,7 +14,9 @@ module _ {K V : Type 0} (cmp : K → K → Ordering) (o : IsTotalOrder cmp) wher
   pub put_put : (es : List (K × V)) (k : K) (v w : V) → put cmp (put cmp es k v) k w ≡ put cmp es k w
   put_put [] k v w = rw (tied_itself o k)
   put_put (e ∷ es) k v w =
-      elim (cmp k e.0) as (λ r. cmp k e.0 ≡ r → put cmp (match_ordering r ((k, v) ∷ e ∷ es) ((k, v) ∷ es) (e ∷ put cmp es k v)) k w ≡ match_ordering r ((k, w) ∷ e ∷ es) ((k, w) ∷ es) (e ∷ put cmp es k w)) [
+      elim (cmp k e.0) as (λ r. cmp k e.0 ≡ r →
+      put cmp (match_ordering r ((k, v) ∷ e ∷ es) ((k, v) ∷ es) (e ∷ put cmp es k v)) k w ≡ match_ordering r
+      ((k, w) ∷ e ∷ es) ((k, w) ∷ es) (e ∷ put cmp es k w)) [
         | Less ↦ λ g. rw (tied_itself o k)
         | Equal ↦ λ g. rw (tied_itself o k)
         | Greater ↦ λ g. rw g (ap (λ r. e ∷ r) (put_put es k v w))
@@ -24,7 +26,9 @@ module _ {K V : Type 0} (cmp : K → K → Ordering) (o : IsTotalOrder cmp) wher
   pub without_put : (es : List (K × V)) (k : K) (v : V) → without cmp (put cmp es k v) k ≡ without cmp es k
   without_put [] k v = rw (tied_itself o k)
   without_put (e ∷ es) k v =
-      elim (cmp k e.0) as (λ r. cmp k e.0 ≡ r → without cmp (match_ordering r ((k, v) ∷ e ∷ es) ((k, v) ∷ es) (e ∷ put cmp es k v)) k ≡ match_ordering r (e ∷ es) es (e ∷ without cmp es k)) [
+      elim (cmp k e.0) as (λ r. cmp k e.0 ≡ r →
+      without cmp (match_ordering r ((k, v) ∷ e ∷ es) ((k, v) ∷ es) (e ∷ put cmp es k v)) k ≡ match_ordering r (e ∷ es) es
+      (e ∷ without cmp es k)) [
         | Less ↦ λ g. rw (tied_itself o k)
         | Equal ↦ λ g. rw (tied_itself o k)
         | Greater ↦ λ g. rw g (ap (λ r. e ∷ r) (without_put es k v))
@@ -34,7 +38,8 @@ module _ {K V : Type 0} (cmp : K → K → Ordering) (o : IsTotalOrder cmp) wher
   pub at_put_same : (es : List (K × V)) (k : K) (v : V) → at cmp (put cmp es k v) k ≡ Some v
   at_put_same [] k v = rw (tied_itself o k)
   at_put_same (e ∷ es) k v =
-      elim (cmp k e.0) as (λ r. cmp k e.0 ≡ r → at cmp (match_ordering r ((k, v) ∷ e ∷ es) ((k, v) ∷ es) (e ∷ put cmp es k v)) k ≡ Some v) [
+      elim (cmp k e.0) as (λ r. cmp k e.0 ≡ r → at cmp (match_ordering r ((k, v) ∷ e ∷ es) ((k, v) ∷ es) (e ∷ put cmp es k v))
+      k ≡ Some v) [
         | Less ↦ λ g. rw (tied_itself o k)
         | Equal ↦ λ g. rw (tied_itself o k)
         | Greater ↦ λ g. rw g (at_put_same es k v)
@@ -53,7 +58,8 @@ module _ {K V : Type 0} (cmp : K → K → Ordering) (o : IsTotalOrder cmp) wher
         | Greater ↦ λ h. refl
       ] refl
   at_put_other (e ∷ es) k q v other =
-      elim (cmp k e.0) as (λ r. cmp k e.0 ≡ r → at cmp (match_ordering r ((k, v) ∷ e ∷ es) ((k, v) ∷ es) (e ∷ put cmp es k v)) q ≡ at cmp (e ∷ es) q) [
+      elim (cmp k e.0) as (λ r. cmp k e.0 ≡ r → at cmp (match_ordering r ((k, v) ∷ e ∷ es) ((k, v) ∷ es) (e ∷ put cmp es k v))
+      q ≡ at cmp (e ∷ es) q) [
         | Less ↦ λ g.
             elim (cmp q k) as (λ r. cmp q k ≡ r → match_ordering r None (Some v) (at cmp (e ∷ es) q) ≡ at cmp (e ∷ es) q) [
               | Less ↦ λ h. rw (o.trans q k e.0 h g)
@@ -85,10 +91,12 @@ module _ {K V : Type 0} (cmp : K → K → Ordering) (o : IsTotalOrder cmp) wher
       ] refl
 
   -- and any other key has what it had
-  pub at_without_other : (es : List (K × V)) (k q : K) → IsAscending cmp es → cmp q k ≢ Equal → at cmp (without cmp es k) q ≡ at cmp es q
+  pub at_without_other : (es : List (K × V)) (k q : K) → IsAscending cmp es → cmp q k ≢ Equal →
+      at cmp (without cmp es k) q ≡ at cmp es q
   at_without_other [] k q ascending other = refl
   at_without_other (e ∷ es) k q ascending other =
-      elim (cmp k e.0) as (λ r. cmp k e.0 ≡ r → at cmp (match_ordering r (e ∷ es) es (e ∷ without cmp es k)) q ≡ at cmp (e ∷ es) q) [
+      elim (cmp k e.0) as (λ r. cmp k e.0 ≡ r → at cmp (match_ordering r (e ∷ es) es (e ∷ without cmp es k)) q
+      ≡ at cmp (e ∷ es) q) [
         | Less ↦ λ g. refl
         | Equal ↦ λ g.
             elim (cmp q e.0) as (λ r. cmp q e.0 ≡ r → at cmp es q ≡ match_ordering r None (Some e.1) (at cmp es q)) [

@@ -36,7 +36,9 @@ pub in_left : (t u : TxId) (q : List TxId) → In u (queue_without t q) → In u
 in_left t u [] i = absurd i
 in_left t u (x ∷ q) i = go (tx_tells x t) (in_left t u q) i
   where
-    go : ((same_tx x t ≡ true) × (x ≡ t)) ⊎ ((same_tx x t ≡ false) × (x ≢ t)) → (In u (queue_without t q) → In u q × (u ≢ t)) → In u (if not (same_tx x t) then x ∷ queue_without t q else queue_without t q) → In u (x ∷ q) × (u ≢ t)
+    go : ((same_tx x t ≡ true) × (x ≡ t)) ⊎ ((same_tx x t ≡ false) × (x ≢ t)) →
+        (In u (queue_without t q) → In u q × (u ≢ t)) →
+        In u (if not (same_tx x t) then x ∷ queue_without t q else queue_without t q) → In u (x ∷ q) × (u ≢ t)
     go (inl e) more i = let rest = more (rw e.0 at i) in (inr rest.0, rest.1)
     go (inr e) more i = here (rw e.0 at i)
       where
@@ -48,7 +50,8 @@ pub owner_left : (t u : TxId) (q : List TxId) → owner q ≡ Some u → u ≢ t
 owner_left t u [] e ne = absurd (cc)
 owner_left t u (x ∷ q) e ne = go (tx_tells x t)
   where
-    go : ((same_tx x t ≡ true) × (x ≡ t)) ⊎ ((same_tx x t ≡ false) × (x ≢ t)) → owner (if not (same_tx x t) then x ∷ queue_without t q else queue_without t q) ≡ Some u
+    go : ((same_tx x t ≡ true) × (x ≡ t)) ⊎ ((same_tx x t ≡ false) × (x ≢ t)) →
+        owner (if not (same_tx x t) then x ∷ queue_without t q else queue_without t q) ≡ Some u
     go (inl h) = absurd (ne (cc))
     go (inr h) = rw h.0 e
 
@@ -57,7 +60,8 @@ owner_left t u (x ∷ q) e ne = go (tx_tells x t)
 abbrev pub Wrote : {I J A : Type 0} → (I → J → A) → (I → J → A) → I → J → A → Type 0
 Wrote f g i j x = (a : _) (b : _) → ((a ≡ i) × (b ≡ j) × (g a b ≡ x)) ⊎ (g a b ≡ f a b)
 
-pub wrote_elim : {I J A : Type 0} (P : I → J → A → Type 0) (f g : I → J → A) (i : I) (j : J) (x : A) → Wrote f g i j x → P i j x → ((a : I) (b : J) → P a b (f a b)) → (a : I) (b : J) → P a b (g a b)
+pub wrote_elim : {I J A : Type 0} (P : I → J → A → Type 0) (f g : I → J → A) (i : I) (j : J) (x : A) → Wrote f g i j x →
+    P i j x → ((a : I) (b : J) → P a b (f a b)) → (a : I) (b : J) → P a b (g a b)
 wrote_elim P f g i j x w here rest a b = go (w a b)
   where
     go : ((a ≡ i) × (b ≡ j) × (g a b ≡ x)) ⊎ (g a b ≡ f a b) → P a b (g a b)
@@ -66,7 +70,8 @@ wrote_elim P f g i j x w here rest a b = go (w a b)
 
 -- messages that come once
 
-pub apart_push : (entry : Entries) (xs : List Message) (x : Message) → Apart entry xs → IsNew entry x xs → Apart entry (xs ++ x ∷ [])
+pub apart_push : (entry : Entries) (xs : List Message) (x : Message) → Apart entry xs → IsNew entry x xs →
+    Apart entry (xs ++ x ∷ [])
 apart_push entry [] x apart fresh = (λ y g live i. absurd i, tt)
 apart_push entry (z ∷ zs) x apart fresh = (
   λ y g live i of_z of_y. go y g live of_z of_y (In-push y x zs i),
@@ -78,6 +83,10 @@ apart_push entry (z ∷ zs) x apart fresh = (
     go y g live of_z of_y (inr e) = fresh z g live (inl refl) (ap once (sym e) ∙ of_y) of_z
 
 -- fewer are undecided
-pub apart_fewer : (before after : Entries) (xs : List Message) → ((t : TxId) → is_live after t ≡ true → is_live before t ≡ true) → Apart before xs → Apart after xs
+pub apart_fewer : (before after : Entries) (xs : List Message) →
+    ((t : TxId) → is_live after t ≡ true → is_live before t ≡ true) → Apart before xs → Apart after xs
 apart_fewer before after [] fewer apart = tt
-apart_fewer before after (x ∷ xs) fewer apart = (λ y g live. apart.0 y g (fewer (tagged g) live), apart_fewer before after xs fewer apart.1)
+apart_fewer before after (x ∷ xs) fewer apart = (
+  λ y g live. apart.0 y g (fewer (tagged g) live),
+  apart_fewer before after xs fewer apart.1,
+)

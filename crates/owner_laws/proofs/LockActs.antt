@@ -1,4 +1,5 @@
--- Each act of a node keeps what is true of locks, and what the records tell of the node's transactions, as long as no message of
+-- Each act of a node keeps what is true of locks, and what the records tell of the node's transactions, as long as no message
+-- of
 -- topology is on its way.
 use Rattle.act_rows.specs.Locks.{after_lock_behind, owner_at, with_queued}
 use Rattle.act_rows.specs.Closing.{after_advance_starter}
@@ -45,7 +46,8 @@ module _ (past : List Rec) (most : ℕ) (m : PartMap) (around : Around) where
   abbrev B : NodeState → Type 0
   B = Both past m around
 
-  near_backup_both : (s : NodeState) (from : NodeId) (tx : TxId) (primary : NodeId) → B s → B (after_backup_finished_at_starter s from tx primary)
+  near_backup_both : (s : NodeState) (from : NodeId) (tx : TxId) (primary : NodeId) → B s →
+      B (after_backup_finished_at_starter s from tx primary)
   near_backup_both s from tx primary b = go (entry_of s tx) refl
     where
       f : TxEntry → TxEntry
@@ -64,13 +66,25 @@ module _ (past : List Rec) (most : ℕ) (m : PartMap) (around : Around) where
       go : (x : Option TxEntry) → entry_of s tx ≡ x → B (on_entry s tx f x)
       go None there = b
       go (Some e) there = record {
-        near = same_core past s tx e (f e) b.near there refl refl refl refl refl (shaped e.state e (no_more past s b.near tx e there).shape);
+        near = same_core past s tx e (f e) b.near there refl refl refl refl refl
+            (shaped e.state e (no_more past s b.near tx e there).shape);
         good = same_good past m around s tx e (f e) (starter past m around s tx e there b.near) there refl refl refl b.good;
       }
 
   round_both : (s : NodeState) (f : Round → Round) (r : Option Round) → B s → B (on_round s f r)
   round_both s f None b = b
-  round_both s f (Some r) b = record { near = b.near; good = record { locks = b.good.locks; up = b.good.up; installed = b.good.installed; seen = b.good.seen; shares_up = b.good.shares_up } }
+  round_both s f (Some r) b =
+      record {
+        near = b.near;
+        good = record {
+          locks = b.good.locks;
+          up = b.good.up;
+          installed = b.good.installed;
+          seen =
+              b.good.seen;
+          shares_up = b.good.shares_up;
+        };
+      }
 
   -- what a row of answers gives
   from_takes : (s s2 : NodeState) → StarterInAct past s2 × (Good m around s → Good m around s2) → B s → B s2
@@ -79,31 +93,53 @@ module _ (past : List Rec) (most : ℕ) (m : PartMap) (around : Around) where
   abbrev Hand : NodeState → NodeId → Message → Type 0
   Hand s from x = InHand m (view around s) s.me (Some (record { from = from; message = x }))
 
-  placed_near : (s : NodeState) (from : NodeId) (tx : TxId) (top : TopVer) (key : Key) (o : Option TxId) → StarterInAct past s → StarterInAct past (after_lock_behind s from tx top key o)
+  placed_near : (s : NodeState) (from : NodeId) (tx : TxId) (top : TopVer) (key : Key) (o : Option TxId) →
+      StarterInAct past s → StarterInAct past (after_lock_behind s from tx top key o)
   placed_near s from tx top key None n = starter_noting past (with_queued s tx key) (note.Grant tx top key) refl n
   placed_near s from tx top key (Some o) n = starter_noting past (with_queued s tx key) (note.Queue tx key o) refl n
 
   message_both : (s : NodeState) (from : NodeId) (x : Message) → Hand s from x → B s → B (after_message s from x)
-  message_both s from (msg.Lock tx top key) h b = record { near = placed_near s from tx top key (owner_at s key) b.near; good = lock_row_good m around s from tx top key h b.good }
-  message_both s from (msg.LockOk tx key found) h b = let goes = lock_ok_takes past most (Keeps past m around) _ (lock_kit past m around most) (lock_answers past m around) s from tx key found b.near in record { near = goes.0; good = goes.1 b.good h }
+  message_both s from (msg.Lock tx top key) h b = record {
+    near = placed_near s from tx top key (owner_at s key) b.near;
+    good = lock_row_good m around s from tx top key h b.good;
+  }
+  message_both s from (msg.LockOk tx key found) h b = let goes = lock_ok_takes past most (Keeps past m around) _
+      (lock_kit past m around most) (lock_answers past m around) s from tx key found b.near in
+      record { near = goes.0; good = goes.1 b.good h }
   message_both s from (msg.Get tx key near) h b = get_both past m around s from tx key near b
-  message_both s from (msg.GetOk tx key found) h b = let goes = get_ok_takes past most (Keeps past m around) _ (lock_kit past m around most) (lock_answers past m around) s from tx key found b.near in record { near = goes.0; good = goes.1 b.good h }
-  message_both s from (msg.Prepare tx top x shares wanted writes) h b = prepare_both past m around s from tx top x shares wanted writes h.0 b
-  message_both s from (msg.Prepared tx) h b = let goes = prepared_takes past most (Keeps past m around) _ (lock_kit past m around most) (lock_answers past m around) s from tx b.near in record { near = goes.0; good = goes.1 b.good h }
-  message_both s from (msg.PrepareFail tx why) h b = let goes = prepare_fail_takes past most (Keeps past m around) _ (lock_kit past m around most) (lock_answers past m around) s from tx why b.near in record { near = goes.0; good = goes.1 b.good h }
+  message_both s from (msg.GetOk tx key found) h b = let goes =
+      get_ok_takes past most (Keeps past m around) _ (lock_kit past m around most) (lock_answers past m around) s from tx key
+      found b.near in record { near = goes.0; good = goes.1 b.good h }
+  message_both s from (msg.Prepare tx top x shares wanted writes) h b =
+      prepare_both past m around s from tx top x shares wanted writes h.0 b
+  message_both s from (msg.Prepared tx) h b = let goes = prepared_takes past most (Keeps past m around) _
+      (lock_kit past m around most) (lock_answers past m around) s from tx b.near in
+      record { near = goes.0; good = goes.1 b.good h }
+  message_both s from (msg.PrepareFail tx why) h b = let goes = prepare_fail_takes past most (Keeps past m around) _
+      (lock_kit past m around most) (lock_answers past m around) s from tx why b.near in
+      record { near = goes.0; good = goes.1 b.good h }
   message_both s from (msg.Finish tx commit) h b = finish_both past m around s from tx commit h.0.over b
   message_both s from (msg.Finished tx) h b =
-      let goes = finished_takes past most (Keeps past m around) _ (lock_kit past m around most) (lock_answers past m around) s from tx b.near in
-      round_both (after_finished_at_starter s from tx) (λ (r : Round). record r { finishes = without_member finish_wait_cmp r.finishes (record { tx = tx; node = from }) }) (after_finished_at_starter s from tx).round (record { near = goes.0; good = goes.1 b.good h })
+      let goes = finished_takes past most (Keeps past m around) _ (lock_kit past m around most) (lock_answers past m around) s
+      from tx b.near in
+      round_both (after_finished_at_starter s from tx)
+      (λ (r : Round). record r { finishes = without_member finish_wait_cmp r.finishes (record { tx = tx; node = from }) })
+      (after_finished_at_starter s from tx).round (record { near = goes.0; good = goes.1 b.good h })
   message_both s from (msg.Edges tx round asked) h b = edges_both past m around s from tx round asked b
-  message_both s from (msg.EdgesOk tx round act edges) h b = let goes = edges_ok_takes past most (Keeps past m around) _ (lock_kit past m around most) (lock_answers past m around) s from tx round act edges b.near in record { near = goes.0; good = goes.1 b.good h }
-  message_both s from (msg.BackupPrepare tx top shares primary writes) h b = backup_prepare_both past m around s from tx top shares primary writes b
+  message_both s from (msg.EdgesOk tx round act edges) h b = let goes = edges_ok_takes past most (Keeps past m around) _
+      (lock_kit past m around most) (lock_answers past m around) s from tx round act edges b.near in
+      record { near = goes.0; good = goes.1 b.good h }
+  message_both s from (msg.BackupPrepare tx top shares primary writes) h b =
+      backup_prepare_both past m around s from tx top shares primary writes b
   message_both s from (msg.BackupPrepared tx) h b = backup_prepared_both past m around s from tx b
   message_both s from (msg.BackupFinish tx primary commit) h b = backup_finish_both past m around s from tx primary commit b
   message_both s from (msg.BackupFinished tx primary) h b =
       let own = after_backup_finished_at_primary s from tx primary in
       let near = after_backup_finished_at_starter own from tx primary in
-      round_both near (λ (r : Round). record r { backups = without_member backup_wait_cmp r.backups (record { tx = tx; primary = primary; holder = from }) }) near.round
+      round_both near (λ (r : Round).
+      record r {
+        backups = without_member backup_wait_cmp r.backups (record { tx = tx; primary = primary; holder = from });
+      }) near.round
       (near_backup_both own from tx primary (own_backup_finished_both past m around s from tx primary b))
   message_both s from (msg.NearUpdate tx key new ver) h b = near_update_both past m around s from tx key new ver b
   message_both s from (msg.NearDone tx key) h b = near_done_both past m around s from tx key b
@@ -144,14 +180,21 @@ module _ (past : List Rec) (most : ℕ) (m : PartMap) (around : Around) where
       let g3 = near_on_goes past most R kit started g2.0 in
       single_both (after_advance_starter started) (record { near = g3.0; good = g3.1 (g2.1 (g1.1 b1.good)) })
 
-  pub message_act_both : (s : NodeState) (from : NodeId) (x : Message) → Hand s from x → B s → B (after_closing_rules (after_message s from x))
+  pub message_act_both : (s : NodeState) (from : NodeId) (x : Message) → Hand s from x → B s →
+      B (after_closing_rules (after_message s from x))
   message_act_both s from x h b = closed_both (after_message s from x) (message_both s from x h b)
 
-  pub call_act_both : (s : NodeState) (session : ℕ) → RoomAt past most (Keeps past m around) (lock_kit past m around most) s session → B s → B (after_closing_rules (after_call s session))
-  call_act_both s session room b = let goes = call_row_goes past most (Keeps past m around) (lock_kit past m around most) s session room b.near in closed_both (after_call s session) (record { near = goes.0; good = goes.1 b.good })
+  pub call_act_both : (s : NodeState) (session : ℕ) →
+      RoomAt past most (Keeps past m around) (lock_kit past m around most) s session → B s →
+      B (after_closing_rules (after_call s session))
+  call_act_both s session room b = let goes = call_row_goes past most (Keeps past m around) (lock_kit past m around most) s
+      session room b.near in closed_both (after_call s session) (record { near = goes.0; good = goes.1 b.good })
 
   pub expire_act_both : (s : NodeState) (tx : TxId) → is_overdue s tx ≡ true → B s → B (after_closing_rules (after_expire s tx))
-  expire_act_both s tx due b = let goes = expire_goes past most (Keeps past m around) _ (lock_kit past m around most) (lock_answers past m around) s tx due b.near in closed_both (after_expire s tx) (record { near = goes.0; good = goes.1 b.good })
+  expire_act_both s tx due b = let goes = expire_goes past most (Keeps past m around) _ (lock_kit past m around most)
+      (lock_answers past m around) s tx due b.near in
+      closed_both (after_expire s tx) (record { near = goes.0; good = goes.1 b.good })
 
   pub answer_act_both : (s : NodeState) (session : ℕ) → B s → B (after_answer s session)
-  answer_act_both s session b = let goes = answer_row_goes past most (Keeps past m around) (lock_kit past m around most) s session b.near in record { near = goes.0; good = goes.1 b.good }
+  answer_act_both s session b = let goes = answer_row_goes past most (Keeps past m around) (lock_kit past m around most) s
+      session b.near in record { near = goes.0; good = goes.1 b.good }

@@ -73,7 +73,9 @@ module _ (s : NodeState) (m : PartMap) (here : s.installed ≡ Some m) (none : m
 
   never_switches : may_switch s ≡ true → ⊥
   never_switches may =
-      let all : (is_oldest s && is_installed s s.seen && is_open s s.opened && all_claimed s []) ≡ true = subst (λ (ns : List NodeId). (is_oldest s && is_installed s s.seen && is_open s s.opened && all_claimed s ns) ≡ true) no_movers may in
+      let all : (is_oldest s && is_installed s s.seen && is_open s s.opened && all_claimed s []) ≡ true =
+      subst (λ (ns : List NodeId). (is_oldest s && is_installed s s.seen && is_open s s.opened && all_claimed s ns)
+      ≡ true) no_movers may in
       let last = (first_rest (is_oldest s && is_installed s s.seen && is_open s s.opened) (all_claimed s []) all).1 in
       cc (last)
 
@@ -88,11 +90,14 @@ bare_moves (suc more) = bare_moves more
 movers_parts : (xs ys : List Row) → movers_in (xs ++ ys) ≡ movers_in xs ++ movers_in ys
 movers_parts xs ys = flat_map-append (λ (row : Row). row.movers) xs ys
 
-opening_moves : (servers : List NodeId) (running : List ℕ) (number : ℕ) (caches : List Cache) → movers_in (opening_rows servers running number caches) ≡ []
+opening_moves : (servers : List NodeId) (running : List ℕ) (number : ℕ) (caches : List Cache) →
+    movers_in (opening_rows servers running number caches) ≡ []
 opening_moves servers running number [] = refl
 opening_moves servers running number (cache ∷ caches) =
-    movers_parts (rows_of_cache servers (list_any (λ (r : ℕ). r == number) running) cache) (opening_rows servers running (number + 1) caches)
-    ∙ ap (λ (ns : List NodeId). ns ++ movers_in (opening_rows servers running (number + 1) caches)) (by (list_any (λ (r : ℕ). r == number) running))
+    movers_parts (rows_of_cache servers (list_any (λ (r : ℕ). r == number) running) cache)
+    (opening_rows servers running (number + 1) caches)
+    ∙ ap (λ (ns : List NodeId). ns ++ movers_in (opening_rows servers running (number + 1) caches))
+    (by (list_any (λ (r : ℕ). r == number) running))
     ∙ opening_moves servers running (number + 1) caches
   where
     by : (runs : Bool) → movers_in (rows_of_cache servers runs cache) ≡ []
@@ -112,45 +117,60 @@ module _ (k : ℕ) (few : k < 2 ^ 62) where
   own_lives sc n s sound r = sound.alive_kept n (ap is_alive r.alive)
 
   -- what the starters' part knows when an act begins
-  pub held : (sc : Scene) (n : NodeId) (s : NodeState) (sound : IsSound sc) (r : IsReady sc n s) → StarterInvariant k sc → Held (past_of k sc n) (own_lives sc n s sound r) s
+  pub held : (sc : Scene) (n : NodeId) (s : NodeState) (sound : IsSound sc) (r : IsReady sc n s) → StarterInvariant k sc →
+      Held (past_of k sc n) (own_lives sc n s sound r) s
   held sc n s sound r i = ready k sc n s (own_lives sc n s sound r) r i
 
-  answers_lead : (sc : Scene) (n : NodeId) (s : NodeState) (session : ℕ) → IsSound sc → IsReady sc n s → OwnerInvariant k sc → (let next = scene_with_directory sc (with_answer_given sc.directory) in stands_still next.directory.events ≡ true → OwnersFit (scene_in_act next n (after_answer s session)))
+  answers_lead : (sc : Scene) (n : NodeId) (s : NodeState) (session : ℕ) → IsSound sc → IsReady sc n s → OwnerInvariant k sc →
+      (let next = scene_with_directory sc (with_answer_given sc.directory) in stands_still next.directory.events ≡ true →
+      OwnersFit (scene_in_act next n (after_answer s session)))
   answers_lead sc n s session sound r i still =
       let f = i.owners still in
       let next = scene_with_directory sc (with_answer_given sc.directory) in
       let h = held sc n s sound r i.starters in
       let me = (acts.answers (past_of k sc n) (own_lives sc n s sound r) s session h).face.me_is in
-      acts_fit k next n s (after_answer s session) (ready_next sc next n s refl refl r) me h.starter (answer_act_both (recs_of n sc.recs) k (map_of sc) (around sc) s session) (record { no_event = f.no_event; locks = f.locks; nodes = f.nodes })
+      acts_fit k next n s (after_answer s session) (ready_next sc next n s refl refl r) me h.starter
+      (answer_act_both (recs_of n sc.recs) k (map_of sc) (around sc) s session)
+      (record { no_event = f.no_event; locks = f.locks; nodes = f.nodes })
 
-  calls_lead : (sc : Scene) (n : NodeId) (s : NodeState) (session : ℕ) → IsSound sc → IsReady sc n s → OwnerInvariant k sc → stands_still sc.directory.events ≡ true → OwnersFit (scene_in_act sc n (after_closing_rules (after_call s session)))
+  calls_lead : (sc : Scene) (n : NodeId) (s : NodeState) (session : ℕ) → IsSound sc → IsReady sc n s → OwnerInvariant k sc →
+      stands_still sc.directory.events ≡ true → OwnersFit (scene_in_act sc n (after_closing_rules (after_call s session)))
   calls_lead sc n s session sound r i still =
       let more = more_counted k sc i.starters in
       let lives = own_lives sc n s sound r in
       let h = ready (suc k) sc n s lives r more in
       let p = past_of (suc k) sc n in
-      let room = λ (d : SessionState) (here : session_state_of s session ≡ Some d). call_room k few sc n s r i.starters session d here in
+      let room = λ (d : SessionState) (here : session_state_of s session ≡ Some d).
+      call_room k few sc n s r i.starters session d here in
       let me = (acts.closes p lives (after_call s session) (acts.calls p lives s session room h)).face.me_is in
-      acts_fit (suc k) sc n s (after_closing_rules (after_call s session)) r me h.starter (call_act_both (recs_of n sc.recs) (suc k) (map_of sc) (around sc) s session room) (i.owners still)
+      acts_fit (suc k) sc n s (after_closing_rules (after_call s session)) r me h.starter
+      (call_act_both (recs_of n sc.recs) (suc k) (map_of sc) (around sc) s session room) (i.owners still)
 
-  takes_lead : (sc : Scene) (n : NodeId) (s : NodeState) (from : NodeId) (m : Message) → IsSound sc → IsReady sc n s → sc.link from n ≡ m ∷ drop 1 (sc.link from n) → OwnerInvariant k sc → stands_still sc.directory.events ≡ true → OwnersFit (scene_in_act (scene_after_take sc from n m) n (after_closing_rules (after_message s from m)))
+  takes_lead : (sc : Scene) (n : NodeId) (s : NodeState) (from : NodeId) (m : Message) → IsSound sc → IsReady sc n s →
+      sc.link from n ≡ m ∷ drop 1 (sc.link from n) → OwnerInvariant k sc → stands_still sc.directory.events ≡ true →
+      OwnersFit (scene_in_act (scene_after_take sc from n m) n (after_closing_rules (after_message s from m)))
   takes_lead sc n s from m sound r first i still =
       let next = scene_after_take sc from n m in
       let one = one_record (Some n) (note.Deliver from m) in
       let lives : is_lost next.recs n ≡ false = lost_same sc.recs one n (λ x. refl) ∙ own_lives sc n s sound r in
       let p = past_of k next n in
-      let named : MessageNamesLost next.recs m = message_later sc.recs one m (subst (λ (ms : List Message). HoldsOfEach (MessageNamesLost sc.recs) ms) first (i.starters.links from n)).0 in
+      let named : MessageNamesLost next.recs m =
+      message_later sc.recs one m (subst (λ (ms : List Message). HoldsOfEach (MessageNamesLost sc.recs) ms) first
+      (i.starters.links from n)).0 in
       let h = ready k next n s lives (ready_next sc next n s refl refl r) (taken k sc from n m i.starters) in
       let me = (acts.closes p lives (after_message s from m) (acts.messages p lives s from m named h)).face.me_is in
       takes_fit k sc n s from m r first me h.starter (i.owners still)
 
-  expires_lead : (sc : Scene) (n : NodeId) (s : NodeState) (tx : TxId) → IsSound sc → IsReady sc n s → is_overdue s tx ≡ true → OwnerInvariant k sc → stands_still sc.directory.events ≡ true → OwnersFit (scene_in_act sc n (after_closing_rules (after_expire s tx)))
+  expires_lead : (sc : Scene) (n : NodeId) (s : NodeState) (tx : TxId) → IsSound sc → IsReady sc n s →
+      is_overdue s tx ≡ true → OwnerInvariant k sc → stands_still sc.directory.events ≡ true →
+      OwnersFit (scene_in_act sc n (after_closing_rules (after_expire s tx)))
   expires_lead sc n s tx sound r due i still =
       let lives = own_lives sc n s sound r in
       let p = past_of k sc n in
       let h = held sc n s sound r i.starters in
       let me = (acts.closes p lives (after_expire s tx) (acts.expires p lives s tx due h)).face.me_is in
-      acts_fit k sc n s (after_closing_rules (after_expire s tx)) r me h.starter (expire_act_both (recs_of n sc.recs) k (map_of sc) (around sc) s tx due) (i.owners still)
+      acts_fit k sc n s (after_closing_rules (after_expire s tx)) r me h.starter
+      (expire_act_both (recs_of n sc.recs) k (map_of sc) (around sc) s tx due) (i.owners still)
 
   -- no event is there to be seen
   pub none_seen : (sc : Scene) (place : ℕ) (e : TopoEvent) → slice_get sc.directory.events place ≡ Some e → OwnersFit sc → ⊥
@@ -163,24 +183,85 @@ module _ (k : ℕ) (few : k < 2 ^ 62) where
 
   pub still_before : (es : List TopoEvent) (e : TopoEvent) → stands_still (es ++ e ∷ []) ≡ true → stands_still es ≡ true
   still_before [] e all = refl
-  still_before (x ∷ es) e all = let both = first_rest (is_minor x) (stands_still (es ++ e ∷ [])) all in rw both.0 (still_before es e both.1)
+  still_before (x ∷ es) e all = let both = first_rest (is_minor x) (stands_still (es ++ e ∷ [])) all in
+      rw both.0 (still_before es e both.1)
 
   pub owners_lead : EachEventLeads (OwnerInvariant k) (OwnerInvariant (suc k))
   owners_lead = record {
-    answers = λ sc n s session sound r may i. record { starters = lead.answers sc n s session sound r may i.starters; owners = answers_lead sc n s session sound r i };
-    calls = λ sc n s session sound r may i. record { starters = lead.calls sc n s session sound r may i.starters; owners = calls_lead sc n s session sound r i };
-    takes = λ sc n s from m sound r first i. record { starters = lead.takes sc n s from m sound r first i.starters; owners = takes_lead sc n s from m sound r first i };
-    expires = λ sc n s tx sound r own due i. record { starters = lead.expires sc n s tx sound r own due i.starters; owners = expires_lead sc n s tx sound r due i };
-    sees = λ sc n s e sound r there i. record { starters = lead.sees sc n s e sound r there i.starters; owners = λ still. absurd (none_seen sc s.read e there (i.owners still)) };
-    switches = λ sc n s sound r may same i. record { starters = lead.switches sc n s sound r may same i.starters; owners = λ still. absurd (no_switch sc n s r may (i.owners (still_before sc.directory.events topo.Minor still))) };
-    moves = λ sc n s out sound r first i. record { starters = lead.moves sc n s out sound r first i.starters; owners = λ still. moves_fit sc n s out r first (i.owners still) };
-    drops = λ sc n s out sound r first away i. record { starters = lead.drops sc n s out sound r first away i.starters; owners = λ still. drops_fit sc n s out r first (i.owners still) };
-    joins = λ sc m s sound absent new is i. record { starters = lead.joins sc m s sound absent new is i.starters; owners = λ still. absurd (moves_on sc.directory.events (topo.Join m) refl still) };
-    loses = λ sc n sound lives i. record { starters = lead.loses sc n sound lives i.starters; owners = λ still. absurd (moves_on sc.directory.events (topo.Left n) refl still) };
-    plans = λ sc refused sound i. record { starters = lead.plans sc refused sound i.starters; owners = λ still. let f = i.owners still in record { no_event = f.no_event; locks = f.locks; nodes = f.nodes } };
-    starts = λ sc e sound is i. record { starters = lead.starts sc e sound is i.starters; owners = λ still. absurd (moves_on sc.directory.events e (switch_minor e is) still) };
-    ticks = λ sc to sound i. record { starters = lead.ticks sc to sound i.starters; owners = λ still. let f = i.owners still in record { no_event = f.no_event; locks = f.locks; nodes = λ n alive. let stands = f.nodes n alive in record { up = stands.up; installed = stands.installed; seen = stands.seen; shares_up = stands.shares_up } } };
-    breaks = λ sc n sound i. record { starters = lead.breaks sc n sound i.starters; owners = λ still. let f = i.owners still in record { no_event = f.no_event; locks = f.locks; nodes = f.nodes } };
+    answers = λ sc n s session sound r may i. record {
+      starters = lead.answers sc n s session sound r may i.starters;
+      owners =
+          answers_lead sc n s session sound r i;
+    };
+    calls = λ sc n s session sound r may i. record {
+      starters = lead.calls sc n s session sound r may i.starters;
+      owners =
+          calls_lead sc n s session sound r i;
+    };
+    takes = λ sc n s from m sound r first i. record {
+      starters = lead.takes sc n s from m sound r first i.starters;
+      owners =
+          takes_lead sc n s from m sound r first i;
+    };
+    expires = λ sc n s tx sound r own due i. record {
+      starters = lead.expires sc n s tx sound r own due i.starters;
+      owners =
+          expires_lead sc n s tx sound r due i;
+    };
+    sees = λ sc n s e sound r there i. record {
+      starters = lead.sees sc n s e sound r there i.starters;
+      owners =
+          λ still. absurd (none_seen sc s.read e there (i.owners still));
+    };
+    switches = λ sc n s sound r may same i. record {
+      starters = lead.switches sc n s sound r may same i.starters;
+      owners =
+          λ still. absurd (no_switch sc n s r may (i.owners (still_before sc.directory.events topo.Minor still)));
+    };
+    moves = λ sc n s out sound r first i. record {
+      starters = lead.moves sc n s out sound r first i.starters;
+      owners =
+          λ still. moves_fit sc n s out r first (i.owners still);
+    };
+    drops = λ sc n s out sound r first away i. record {
+      starters = lead.drops sc n s out sound r first away i.starters;
+      owners = λ still. drops_fit sc n s out r first (i.owners still);
+    };
+    joins = λ sc m s sound absent new is i. record {
+      starters = lead.joins sc m s sound absent new is i.starters;
+      owners =
+          λ still. absurd (moves_on sc.directory.events (topo.Join m) refl still);
+    };
+    loses = λ sc n sound lives i. record {
+      starters = lead.loses sc n sound lives i.starters;
+      owners =
+          λ still. absurd (moves_on sc.directory.events (topo.Left n) refl still);
+    };
+    plans = λ sc refused sound i. record {
+      starters = lead.plans sc refused sound i.starters;
+      owners = λ still. let f =
+          i.owners still in record { no_event = f.no_event; locks = f.locks; nodes = f.nodes };
+    };
+    starts = λ sc e sound is i. record {
+      starters = lead.starts sc e sound is i.starters;
+      owners =
+          λ still. absurd (moves_on sc.directory.events e (switch_minor e is) still);
+    };
+    ticks = λ sc to sound i. record {
+      starters = lead.ticks sc to sound i.starters;
+      owners = λ still. let f =
+          i.owners still in record {
+            no_event = f.no_event;
+            locks = f.locks;
+            nodes = λ n alive. let stands = f.nodes n alive in
+                record { up = stands.up; installed = stands.installed; seen = stands.seen; shares_up = stands.shares_up };
+          };
+    };
+    breaks = λ sc n sound i. record {
+      starters = lead.breaks sc n sound i.starters;
+      owners = λ still. let f =
+          i.owners still in record { no_event = f.no_event; locks = f.locks; nodes = f.nodes };
+    };
   }
 
 -- The opening: there is no transaction, no place and no message.
@@ -201,6 +282,7 @@ owners_open s = record {
   };
 }
   where
-    stands : (n : NodeId) (initial : Bool) → opening_life initial ≡ life.Alive → NodeStands (opening_map_of s) (opening_node s (opening_map_of s) n initial)
+    stands : (n : NodeId) (initial : Bool) → opening_life initial ≡ life.Alive →
+        NodeStands (opening_map_of s) (opening_node s (opening_map_of s) n initial)
     stands n true alive = record { up = tt; installed = refl; seen = same_top_itself first_top; shares_up = tt }
     stands n false alive = absurd (cc (alive))

@@ -40,10 +40,13 @@ step_still (step.Lose n) is = absurd (cc (is))
 step_still (step.Start cache) is = absurd (cc (is))
 step_still (step.Stop cache) is = absurd (cc (is))
 
-planned_still : (plan : List PlanStep) (place : ℕ) → list_all (λ (p : PlanStep). leaves_topology p.step) plan ≡ true → stands_still (event_of_planned (slice_get plan place)) ≡ true
+planned_still : (plan : List PlanStep) (place : ℕ) → list_all (λ (p : PlanStep). leaves_topology p.step) plan ≡ true →
+    stands_still (event_of_planned (slice_get plan place)) ≡ true
 planned_still [] place is = refl
-planned_still (p ∷ ps) zero is = step_still p.step (first_rest (leaves_topology p.step) (list_all (λ (x : PlanStep). leaves_topology x.step) ps) is).0
-planned_still (p ∷ ps) (suc place) is = planned_still ps place (first_rest (leaves_topology p.step) (list_all (λ (x : PlanStep). leaves_topology x.step) ps) is).1
+planned_still (p ∷ ps) zero is =
+    step_still p.step (first_rest (leaves_topology p.step) (list_all (λ (x : PlanStep). leaves_topology x.step) ps) is).0
+planned_still (p ∷ ps) (suc place) is =
+    planned_still ps place (first_rest (leaves_topology p.step) (list_all (λ (x : PlanStep). leaves_topology x.step) ps) is).1
 
 module _ (plan : List PlanStep) (is : list_all (λ (p : PlanStep). leaves_topology p.step) plan ≡ true) where
   rec_still : (r : Rec) → stands_still (events_in_rec plan r) ≡ true
@@ -53,7 +56,8 @@ module _ (plan : List PlanStep) (is : list_all (λ (p : PlanStep). leaves_topolo
 
   recs_still : (rs : List Rec) → stands_still (flat_map (events_in_rec plan) rs) ≡ true
   recs_still [] = refl
-  recs_still (r ∷ rs) = all_of_both is_minor (events_in_rec plan r) (flat_map (events_in_rec plan) rs) (rec_still r) (recs_still rs)
+  recs_still (r ∷ rs) = all_of_both is_minor (events_in_rec plan r) (flat_map (events_in_rec plan) rs) (rec_still r)
+      (recs_still rs)
 
   group_still : (rs : List Rec) (e : Event) → stands_still (events_of plan rs e) ≡ true
   group_still rs (event.Minor id) = refl
@@ -61,27 +65,35 @@ module _ (plan : List PlanStep) (is : list_all (λ (p : PlanStep). leaves_topolo
 
   pub groups_still : (gs : List Group) → stands_still (flat_map (λ (g : Group). events_of plan g.recs g.event) gs) ≡ true
   groups_still [] = refl
-  groups_still (g ∷ gs) = all_of_both is_minor (events_of plan g.recs g.event) (flat_map (λ (x : Group). events_of plan x.recs x.event) gs) (group_still g.recs g.event) (groups_still gs)
+  groups_still (g ∷ gs) = all_of_both is_minor (events_of plan g.recs g.event)
+      (flat_map (λ (x : Group). events_of plan x.recs x.event) gs) (group_still g.recs g.event) (groups_still gs)
 
 -- What is known of locks says that they are tokens.
 
 module _ (m : PartMap) (v : View) (i : Locks m v) where
-  lock_tells : (from to : NodeId) (x : Message) (tx : TxId) (key : Key) → Fact m v from to x → once x ≡ Some (ALock tx key) → is_live v.entry tx ≡ true → WaitsOn (v.entry tx.node tx) (v.session_state tx.node tx.session) key × (In tx (v.queue to key) → ⊥)
+  lock_tells : (from to : NodeId) (x : Message) (tx : TxId) (key : Key) → Fact m v from to x → once x ≡ Some (ALock tx key) →
+      is_live v.entry tx ≡ true → WaitsOn (v.entry tx.node tx) (v.session_state tx.node tx.session) key
+      × (In tx (v.queue to key) → ⊥)
   lock_tells from to (msg.Lock u top k) tx key f is live =
       let same : u ≡ tx = cc (is) in
       let same_key : k ≡ key = cc (is) in
       let here : is_live v.entry u ≡ true = subst (λ (t : TxId). is_live v.entry t ≡ true) (sym same) live in
       subst (λ (t : TxId). WaitsOn (v.entry t.node t) (v.session_state t.node t.session) key × (In t (v.queue to key) → ⊥)) same
-      (subst (λ (l : Key). WaitsOn (v.entry u.node u) (v.session_state u.node u.session) l × (In u (v.queue to l) → ⊥)) same_key (f.waits_on here, f.unqueued here))
+      (subst (λ (l : Key). WaitsOn (v.entry u.node u) (v.session_state u.node u.session) l × (In u (v.queue to l) → ⊥))
+      same_key (f.waits_on here, f.unqueued here))
   lock_tells from to _ tx key f is live = absurd (cc (is))
 
-  lock_ok_tells : (from to : NodeId) (x : Message) (tx : TxId) (key : Key) → Fact m v from to x → once x ≡ Some (ALockOk tx key) → is_live v.entry tx ≡ true → WaitsOn (v.entry tx.node tx) (v.session_state tx.node tx.session) key × (owner (v.queue from key) ≡ Some tx)
+  lock_ok_tells : (from to : NodeId) (x : Message) (tx : TxId) (key : Key) → Fact m v from to x →
+      once x ≡ Some (ALockOk tx key) → is_live v.entry tx ≡ true →
+      WaitsOn (v.entry tx.node tx) (v.session_state tx.node tx.session) key × (owner (v.queue from key) ≡ Some tx)
   lock_ok_tells from to (msg.LockOk u k found) tx key f is live =
       let same : u ≡ tx = cc (is) in
       let same_key : k ≡ key = cc (is) in
       let here : is_live v.entry u ≡ true = subst (λ (t : TxId). is_live v.entry t ≡ true) (sym same) live in
-      subst (λ (t : TxId). WaitsOn (v.entry t.node t) (v.session_state t.node t.session) key × (owner (v.queue from key) ≡ Some t)) same
-      (subst (λ (l : Key). WaitsOn (v.entry u.node u) (v.session_state u.node u.session) l × (owner (v.queue from l) ≡ Some u)) same_key (f.waits_on here, f.owns here))
+      subst (λ (t : TxId). WaitsOn (v.entry t.node t) (v.session_state t.node t.session) key
+      × (owner (v.queue from key) ≡ Some t)) same
+      (subst (λ (l : Key). WaitsOn (v.entry u.node u) (v.session_state u.node u.session) l
+      × (owner (v.queue from l) ≡ Some u)) same_key (f.waits_on here, f.owns here))
   lock_ok_tells from to _ tx key f is live = absurd (cc (is))
 
   tokens : IsOneToken v
@@ -94,7 +106,8 @@ module _ (m : PartMap) (v : View) (i : Locks m v) where
 
 -- Of every run.
 
-module _ (events : ℕ) (short : is_short_run events ≡ true) (j : Journal) (run : IsRunOf events j) (stands : topology_stands j.scenario ≡ true) where
+module _ (events : ℕ) (short : is_short_run events ≡ true) (j : Journal) (run : IsRunOf events j)
+    (stands : topology_stands j.scenario ≡ true) where
   holds : OwnerInvariant (length j.groups) (last_scene j)
   holds = counted_holds OwnerInvariant owners_lead (λ s is. owners_open s) j run.is_good (few events short j run) run.is_legal
 
@@ -102,7 +115,8 @@ module _ (events : ℕ) (short : is_short_run events ≡ true) (j : Journal) (ru
   fits = holds.owners (ap stands_still (directory_told events short j run) ∙ groups_still j.scenario.plan stands j.groups)
 
   pub owns_keys : OwnsItsKeys (last_scene j)
-  owns_keys tx e key primary there undecided locks accessed first = fits.locks.keys tx e there undecided locks key primary accessed first
+  owns_keys tx e key primary there undecided locks accessed first =
+      fits.locks.keys tx e there undecided locks key primary accessed first
 
   pub are_tokens : LocksAreTokens (last_scene j)
   are_tokens = tokens (opening_map_of j.scenario) (lock_view (last_scene j)) fits.locks

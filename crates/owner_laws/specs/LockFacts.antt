@@ -61,7 +61,8 @@ abbrev pub IsTouched : Option TxEntry → Key → Type 0
 IsTouched e k = (x : TxEntry) → e ≡ Some x → is_open x.state ≡ true → is_locking x.mode ≡ true → has key_cmp x.keys k ≡ true
 
 -- a Lock on its way from a to b
-pub record LockFact (m : PartMap) (e : Option TxEntry) (d : Option SessionState) (q : List TxId) (a b : NodeId) (t : TxId) (k : Key) : Type 0 where
+pub record LockFact (m : PartMap) (e : Option TxEntry) (d : Option SessionState) (q : List TxId) (a b : NodeId) (t : TxId)
+    (k : Key) : Type 0 where
   pub named : IsNamed d t
   pub from : t.node ≡ a
   pub to : primary_of m k ≡ Some b
@@ -70,7 +71,8 @@ pub record LockFact (m : PartMap) (e : Option TxEntry) (d : Option SessionState)
   pub unqueued : undecided e ≡ true → In t q → ⊥
 
 -- a LockOk on its way from a to b
-pub record LockOkFact (m : PartMap) (e : Option TxEntry) (d : Option SessionState) (q : List TxId) (a b : NodeId) (t : TxId) (k : Key) : Type 0 where
+pub record LockOkFact (m : PartMap) (e : Option TxEntry) (d : Option SessionState) (q : List TxId) (a b : NodeId) (t : TxId)
+    (k : Key) : Type 0 where
   pub named : IsNamed d t
   pub to : t.node ≡ b
   pub from : primary_of m k ≡ Some a
@@ -78,7 +80,8 @@ pub record LockOkFact (m : PartMap) (e : Option TxEntry) (d : Option SessionStat
   pub owns : undecided e ≡ true → owner q ≡ Some t
 
 -- a Prepare on its way to b: its keys are this node's
-pub record PrepareFact (m : PartMap) (e : Option TxEntry) (d : Option SessionState) (b : NodeId) (t : TxId) (x : Mode) (wanted : List Wanted) : Type 0 where
+pub record PrepareFact (m : PartMap) (e : Option TxEntry) (d : Option SessionState) (b : NodeId) (t : TxId) (x : Mode)
+    (wanted : List Wanted) : Type 0 where
   pub named : IsNamed d t
   pub preparing : (y : TxEntry) → e ≡ Some y → is_open y.state ≡ true → (y.state ≡ state.Preparing) × (y.mode ≡ x)
   pub here : Each (λ (w : Wanted). primary_of m w.key ≡ Some b) wanted
@@ -92,7 +95,8 @@ pub record FinishFact (e : Option TxEntry) (d : Option SessionState) (t : TxId) 
 abbrev pub Fact : PartMap → View → NodeId → NodeId → Message → Type 0
 Fact m v a b (msg.Lock t top k) = LockFact m (v.entry t.node t) (v.session_state t.node t.session) (v.queue b k) a b t k
 Fact m v a b (msg.LockOk t k found) = LockOkFact m (v.entry t.node t) (v.session_state t.node t.session) (v.queue a k) a b t k
-Fact m v a b (msg.Prepare t top x shares wanted writes) = PrepareFact m (v.entry t.node t) (v.session_state t.node t.session) b t x wanted
+Fact m v a b (msg.Prepare t top x shares wanted writes) =
+    PrepareFact m (v.entry t.node t) (v.session_state t.node t.session) b t x wanted
 Fact m v a b (msg.Finish t commit) = FinishFact (v.entry t.node t) (v.session_state t.node t.session) t
 Fact m v a b (msg.Single top x complete) = ⊥
 Fact m v a b (msg.Full x) = ⊥
@@ -134,7 +138,8 @@ Apart entry [] = Unit {0}
 Apart entry (x ∷ ms) = IsNew entry x ms × Apart entry ms
 
 -- a place in a queue
-pub record PlaceFact (m : PartMap) (e : Option TxEntry) (d : Option SessionState) (q : List TxId) (n : NodeId) (k : Key) (t : TxId) : Type 0 where
+pub record PlaceFact (m : PartMap) (e : Option TxEntry) (d : Option SessionState) (q : List TxId) (n : NodeId) (k : Key)
+    (t : TxId) : Type 0 where
   pub named : IsNamed d t
   pub here : primary_of m k ≡ Some n
   pub touched : IsTouched e k
@@ -150,12 +155,14 @@ ShareFact e d t None = Unit {0}
 ShareFact e d t (Some h) = IsNamed d t × ((h.askers ≡ [] → ⊥) → undecided e ≡ false)
 
 abbrev pub KeysFact : PartMap → View → TxId → TxEntry → Type 0
-KeysFact m v t e = is_open e.state ≡ true → is_locking e.mode ≡ true → (k : Key) (n : NodeId) → has key_cmp e.keys k ≡ true → primary_of m k ≡ Some n → KeyFact e (v.session_state t.node t.session) (v.queue n k) t k
+KeysFact m v t e = is_open e.state ≡ true → is_locking e.mode ≡ true → (k : Key) (n : NodeId) → has key_cmp e.keys k ≡ true →
+    primary_of m k ≡ Some n → KeyFact e (v.session_state t.node t.session) (v.queue n k) t k
 
 pub record Locks (m : PartMap) (v : View) : Type 0 where
   pub facts : (a b : NodeId) → Each (Fact m v a b) (v.flight a b)
   pub apart : (a b : NodeId) → Apart v.entry (v.flight a b)
-  pub places : (n : NodeId) (k : Key) (t : TxId) → In t (v.queue n k) → PlaceFact m (v.entry t.node t) (v.session_state t.node t.session) (v.queue n k) n k t
+  pub places : (n : NodeId) (k : Key) (t : TxId) → In t (v.queue n k) →
+      PlaceFact m (v.entry t.node t) (v.session_state t.node t.session) (v.queue n k) n k t
   pub shares : (n : NodeId) (t : TxId) → ShareFact (v.entry t.node t) (v.session_state t.node t.session) t (v.share n t)
   pub keys : (t : TxId) (e : TxEntry) → v.entry t.node t ≡ Some e → KeysFact m v t e
 

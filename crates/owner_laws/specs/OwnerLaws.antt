@@ -52,11 +52,15 @@ OwnsItsKeys sc = (tx : TxId) (e : TxEntry) (key : Key) (primary : NodeId) → en
 -- an undecided transaction's Lock of a key, its place in the key's queue and its LockOk are one token
 pub record IsOneToken (v : View) : Type 0 where
   -- while its Lock is on its way it waits for the key, and stands in no queue of it
-  pub lock_comes : (from to : NodeId) (tx : TxId) (key : Key) (m : Message) → is_live v.entry tx ≡ true → In m (v.flight from to)
-      → once m ≡ Some (ALock tx key) → WaitsOn (v.entry tx.node tx) (v.session_state tx.node tx.session) key × (In tx (v.queue to key) → ⊥)
+  pub lock_comes : (from to : NodeId) (tx : TxId) (key : Key) (m : Message) → is_live v.entry tx ≡ true →
+      In m (v.flight from to)
+      → once m ≡ Some (ALock tx key) → WaitsOn (v.entry tx.node tx) (v.session_state tx.node tx.session) key
+      × (In tx (v.queue to key) → ⊥)
   -- while its LockOk is on its way it waits for the key, and owns it
-  pub lock_ok_comes : (from to : NodeId) (tx : TxId) (key : Key) (m : Message) → is_live v.entry tx ≡ true → In m (v.flight from to)
-      → once m ≡ Some (ALockOk tx key) → WaitsOn (v.entry tx.node tx) (v.session_state tx.node tx.session) key × (owner (v.queue from key) ≡ Some tx)
+  pub lock_ok_comes : (from to : NodeId) (tx : TxId) (key : Key) (m : Message) → is_live v.entry tx ≡ true →
+      In m (v.flight from to)
+      → once m ≡ Some (ALockOk tx key) → WaitsOn (v.entry tx.node tx) (v.session_state tx.node tx.session) key
+      × (owner (v.queue from key) ≡ Some tx)
   -- where it stands in a queue it owns the key, or waits for it
   pub place_stands : (node : NodeId) (tx : TxId) (key : Key) → is_live v.entry tx ≡ true → In tx (v.queue node key)
       → (owner (v.queue node key) ≡ Some tx) ⊎ WaitsOn (v.entry tx.node tx) (v.session_state tx.node tx.session) key

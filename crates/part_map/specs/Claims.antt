@@ -16,4 +16,5 @@ pub record AreClaimed (version : TopVer) (parts : ℕ) (single : Option Single) 
 -- for each single, its claims are marked
 pub record IsTable (version : TopVer) (parts : ℕ) (singles : List Single) (table : List (List Bool)) : Type 0 where
   pub whole : length table ≡ length singles
-  pub each : (place part : ℕ) → place < length singles → part < parts → slice_index_or (slice_index_or table place []) part false ≡ is_claimed version part (slice_get singles place)
+  pub each : (place part : ℕ) → place < length singles → part < parts →
+      slice_index_or (slice_index_or table place []) part false ≡ is_claimed version part (slice_get singles place)

@@ -48,7 +48,8 @@ fn push_filled(
     movers: &[NodeId],
 ) -> Mem<()>
     requires { part < claims.now.parts }
-    ensures { OnOk result (holders.new ≡ holders.old ++ filter (is_filled members.now claims.now.singles.now claims.now.version part) movers.now) }
+    ensures { OnOk result (holders.new ≡ holders.old ++ filter
+        (is_filled members.now claims.now.singles.now claims.now.version part) movers.now) }
 {
     for node in movers {
         if is_filled(members, claims, part, *node) {

@@ -58,7 +58,8 @@ fn running_row(
     row: &Row,
 ) -> Mem<Row>
     requires { part < claims.now.parts }
-    ensures { IfOk result (λ next. next ≡ running_row members.now claims.now.singles.now claims.now.version part wanted.now row.now row.now.owners) }
+    ensures { IfOk result (λ next. next ≡ running_row members.now claims.now.singles.now claims.now.version part wanted.now
+        row.now row.now.owners) }
 {
     if row.owners.is_empty() {
         return owned_by(alloc, wanted);
@@ -78,7 +79,8 @@ fn next_row(
     row: Option<&Row>,
 ) -> Mem<Row>
     requires { part < claims.now.parts }
-    ensures { IfOk result (λ next. next ≡ next_row members.now claims.now.singles.now claims.now.version part wanted.now (row_or_bare (option_copied row.entry))) }
+    ensures { IfOk result (λ next. next ≡ next_row members.now claims.now.singles.now claims.now.version part wanted.now
+        (row_or_bare (option_copied row.entry))) }
 {
     match row {
         Some(row) if !wanted.is_empty() => {
@@ -131,7 +133,8 @@ fn rows_after(
     ideals: &[Row],
     base: Option<&PartMap>,
 ) -> Mem<List<Row>>
-    ensures { IfOk result (λ next. let map = unwrap_or (option_copied base.entry) no_map in next ≡ next_rows members.now singles.now map.top 0 ideals.now map.rows) }
+    ensures { IfOk result (λ next. let map = unwrap_or (option_copied base.entry) no_map in
+        next ≡ next_rows members.now singles.now map.top 0 ideals.now map.rows) }
 {
     match base {
         Some(map) => {

@@ -65,7 +65,8 @@ way_then_later found later = way_or_later found.entered found.way later
 abbrev pub way_through_each : (List TxId → TxId → Descent) → TxId → TxId → List TxId → List Edge → Descent
 way_through_each deeper tx at_tx entered [] = no_way entered
 way_through_each deeper tx at_tx entered (edge ∷ edges) =
-    way_then_later (way_through deeper tx at_tx entered edge) (λ now_entered. way_through_each deeper tx at_tx now_entered edges)
+    way_then_later (way_through deeper tx at_tx entered edge)
+    (λ now_entered. way_through_each deeper tx at_tx now_entered edges)
 
 abbrev pub way_down : ℕ → TxId → List Edge → List TxId → TxId → Descent
 way_down zero tx edges entered at_tx = no_way entered

@@ -75,7 +75,8 @@ map_holders members singles version part row =
 abbrev pub nodes_missing : List NodeId → List NodeId → List NodeId
 nodes_missing wanted holders = filter (λ node. not (has_node holders node)) wanted
 
--- the row of a partition with these holders: the wanted nodes own it where each of them is a holder; else the holders own it, and
+-- the row of a partition with these holders: the wanted nodes own it where each of them is a holder; else the holders own it,
+-- and
 -- the missing nodes are filled
 abbrev pub row_of_missing : List NodeId → List NodeId → List NodeId → Row
 row_of_missing wanted holders [] = record { owners = wanted; movers = [] }
@@ -90,7 +91,8 @@ abbrev pub running_row : List Member → List Single → TopVer → ℕ → List
 running_row members singles version part wanted row [] = record { owners = wanted; movers = [] }
 running_row members singles version part wanted row _ = row_of_holders wanted (map_holders members singles version part row)
 
--- The row of a partition by the nodes that it wants and by its row in the base. No node is wanted where its cache is not one of the
+-- The row of a partition by the nodes that it wants and by its row in the base. No node is wanted where its cache is not one
+-- of the
 -- version; then it has no holders.
 abbrev pub next_row : List Member → List Single → TopVer → ℕ → List NodeId → Row → Row
 next_row members singles version part [] row = record { owners = []; movers = [] }

@@ -16,7 +16,8 @@ use Rattle.part_table.proofs.Histories.{prefix_self}
 use Rattle.part_table.proofs.Committing.{own_append}
 
 -- the longer of two beginnings has both, and is one
-pub longer_has : {A : Type 0} (xs ys log : List A) → IsPrefix xs log → IsPrefix ys log → IsPrefix (longer xs ys) log × IsPrefix xs (longer xs ys) × IsPrefix ys (longer xs ys)
+pub longer_has : {A : Type 0} (xs ys log : List A) → IsPrefix xs log → IsPrefix ys log → IsPrefix (longer xs ys) log
+    × IsPrefix xs (longer xs ys) × IsPrefix ys (longer xs ys)
 longer_has [] ys log p q = (q, (ys, refl), prefix_self ys)
 longer_has (x ∷ xs) [] log p q = (p, prefix_self (x ∷ xs), (x ∷ xs, refl))
 longer_has (x ∷ xs) (y ∷ ys) [] p q = absurd (cc p.1)
@@ -34,12 +35,15 @@ same_start [] ys h = h
 same_start (x ∷ xs) ys h = same_start xs ys (cc h)
 
 -- what the whole has of a pass and a beginning has too, each list between them has
-pub squeezed : {S E : Type 0} (k : ℕ) (xs ys log : List (Entry S E)) → IsPrefix xs ys → IsPrefix ys log → own k log ≡ own k xs → own k log ≡ own k ys
+pub squeezed : {S E : Type 0} (k : ℕ) (xs ys log : List (Entry S E)) → IsPrefix xs ys → IsPrefix ys log →
+    own k log ≡ own k xs → own k log ≡ own k ys
 squeezed k xs ys log p q h =
     let a : own k ys ≡ own k xs ++ own k p.0 = ap (own k) (sym p.1) ∙ own_append k xs p.0 in
     let b : own k log ≡ own k ys ++ own k q.0 = ap (own k) (sym q.1) ∙ own_append k ys q.0 in
-    let c : own k xs ++ (own k p.0 ++ own k q.0) ≡ own k xs = sym (append_assoc (own k xs) (own k p.0) (own k q.0)) ∙ (ap (λ l. l ++ own k q.0) (sym a) ∙ (sym b ∙ h)) in
-    let none_between : own k p.0 ≡ [] = (both_empty (own k p.0) (own k q.0) (same_start (own k xs) (own k p.0 ++ own k q.0) c)).0 in
+    let c : own k xs ++ (own k p.0 ++ own k q.0) ≡ own k xs = sym (append_assoc (own k xs) (own k p.0) (own k q.0))
+    ∙ (ap (λ l. l ++ own k q.0) (sym a) ∙ (sym b ∙ h)) in
+    let none_between : own k p.0 ≡ [] =
+    (both_empty (own k p.0) (own k q.0) (same_start (own k xs) (own k p.0 ++ own k q.0) c)).0 in
     let d : own k xs ++ [] ≡ own k xs = append-nil (own k xs) in
     h ∙ sym (a ∙ (ap (λ l. own k xs ++ l) none_between ∙ d))
 
@@ -51,14 +55,16 @@ pub in_both : (q : ℕ) (xs ys : List ℕ) → is_in q (xs ++ ys) ≡ true → (
 in_both q [] ys h = inr h
 in_both q (x ∷ xs) ys h = ⊎_elim
     (λ (e : x ≡ q). inl (ap (λ b. b || is_in q xs) (eq-eqb x q e)))
-    (λ ne. let f = ne_eqb x q ne in ⊎_elim (λ a. inl (ap (λ b. b || is_in q xs) f ∙ a)) (λ b. inr b) (in_both q xs ys (sym (ap (λ b. b || is_in q (xs ++ ys)) f) ∙ h)))
+    (λ ne. let f = ne_eqb x q ne in ⊎_elim (λ a. inl (ap (λ b. b || is_in q xs) f ∙ a)) (λ b. inr b)
+    (in_both q xs ys (sym (ap (λ b. b || is_in q (xs ++ ys)) f) ∙ h)))
     (cases_eq x q)
 
 pub in_left : (q : ℕ) (xs ys : List ℕ) → is_in q xs ≡ true → is_in q (xs ++ ys) ≡ true
 in_left q [] ys h = absurd (cc h)
 in_left q (x ∷ xs) ys h = ⊎_elim
     (λ (e : x ≡ q). ap (λ b. b || is_in q (xs ++ ys)) (eq-eqb x q e))
-    (λ ne. let f = ne_eqb x q ne in ap (λ b. b || is_in q (xs ++ ys)) f ∙ in_left q xs ys (sym (ap (λ b. b || is_in q xs) f) ∙ h))
+    (λ ne. let f = ne_eqb x q ne in ap (λ b. b || is_in q (xs ++ ys)) f ∙ in_left q xs ys (sym (ap (λ b. b || is_in q xs) f)
+    ∙ h))
     (cases_eq x q)
 
 pub in_right : (q : ℕ) (xs ys : List ℕ) → is_in q ys ≡ true → is_in q (xs ++ ys) ≡ true
@@ -68,34 +74,48 @@ in_right q (x ∷ xs) ys h = ⊎_elim
     (λ ne. ap (λ b. b || is_in q (xs ++ ys)) (ne_eqb x q ne) ∙ in_right q xs ys h)
     (cases_eq x q)
 
-pub at_append : {A : Type 0} (xs ys : List A) (i : ℕ) (a : A) → get_elem? (xs ++ ys) i ≡ some a → (get_elem? xs i ≡ some a) ⊎ ((j : ℕ) × (get_elem? ys j ≡ some a))
+pub at_append : {A : Type 0} (xs ys : List A) (i : ℕ) (a : A) → get_elem? (xs ++ ys) i ≡ some a → (get_elem? xs i ≡ some a)
+    ⊎ ((j : ℕ) × (get_elem? ys j ≡ some a))
 at_append [] ys i a e = inr (i, e)
 at_append (x ∷ xs) ys zero a e = inl e
 at_append (x ∷ xs) ys (suc i) a e = at_append xs ys i a e
 
-pub at_after : {A : Type 0} (xs ys : List A) (j : ℕ) (a : A) → get_elem? ys j ≡ some a → (i : ℕ) × (get_elem? (xs ++ ys) i ≡ some a)
+pub at_after : {A : Type 0} (xs ys : List A) (j : ℕ) (a : A) → get_elem? ys j ≡ some a → (i : ℕ)
+    × (get_elem? (xs ++ ys) i ≡ some a)
 at_after [] ys j a e = (j, e)
 at_after (x ∷ xs) ys j a e = let t = at_after xs ys j a e in (suc t.0, t.1)
 
-pub of_tells : {S E : Type 0} (ks : List ℕ) (w : List (Entry S E)) (i k : ℕ) (xs : List (Entry S E)) → get_elem? (tells ks w) i ≡ some (k, xs) → (is_in k ks ≡ true) × (w ≡ xs)
+pub of_tells : {S E : Type 0} (ks : List ℕ) (w : List (Entry S E)) (i k : ℕ) (xs : List (Entry S E)) →
+    get_elem? (tells ks w) i ≡ some (k, xs) → (is_in k ks ≡ true) × (w ≡ xs)
 of_tells [] w i k xs e = absurd (some-ne-none (k, xs) (sym e))
-of_tells {S} {E} (q ∷ ks) w zero k xs e = let p : ◌≡◌ {A = ℕ × List (Entry S E)} (q, w) (k, xs) = some-injective (q, w) (k, xs) e in
-    (ap (λ b. b || is_in k ks) (eq-eqb q k (ap (λ (z : ℕ × List (Entry S E)). z.0) p)), ap (λ (z : ℕ × List (Entry S E)). z.1) p)
+of_tells {S} {E} (q ∷ ks) w zero k xs e = let p : ◌≡◌ {A = ℕ × List (Entry S E)} (q, w) (k, xs) =
+    some-injective (q, w) (k, xs) e in (
+      ap (λ b. b || is_in k ks) (eq-eqb q k (ap (λ (z : ℕ × List (Entry S E)). z.0) p)),
+      ap (λ (z : ℕ × List (Entry S E)). z.1) p,
+    )
 of_tells (q ∷ ks) w (suc i) k xs e = let t = of_tells ks w i k xs e in (in_right k (q ∷ []) ks t.0, t.1)
 
 module _ {M S E : Type 0} (r : Rules S E) (limit passes : ℕ) (m : M) where
   -- what a seat recalls is so
-  pub recalled : (log : List (Entry S E)) (words : List ℕ) (owner writer session_state : ℕ → ℕ) (id : ℕ) (v : View M S E) → Knows r limit passes m log words owner writer session_state id v
-      → (i k : ℕ) (xs : List (Entry S E)) → get_elem? (recall v) i ≡ some (k, xs) → (is_in k v.numbers ≡ true) × IsPrefix xs log × (own k log ≡ own k xs)
+  pub recalled : (log : List (Entry S E)) (words : List ℕ) (owner writer session_state : ℕ → ℕ) (id : ℕ) (v : View M S E) →
+      Knows r limit passes m log words owner writer session_state id v
+      → (i k : ℕ) (xs : List (Entry S E)) → get_elem? (recall v) i ≡ some (k, xs) → (is_in k v.numbers ≡ true)
+      × IsPrefix xs log × (own k log ≡ own k xs)
   recalled log words owner writer session_state id v kv i k xs e = ⊎_elim
-      (λ t. let o = of_tells v.numbers v.seen i k xs t in (o.0, subst (λ l. IsPrefix l log) o.1 kv.seen, (kv.mine k o.0).2 ∙ ap (own k) o.1))
+      (λ t. let o = of_tells v.numbers v.seen i k xs t in (
+        o.0,
+        subst (λ l. IsPrefix l log) o.1 kv.seen,
+        (kv.mine k o.0).2
+            ∙ ap (own k) o.1,
+      ))
       (λ t. kv.told t.0 k xs t.1)
       (at_append (tells v.numbers v.seen) v.told i (k, xs) e)
 
   abbrev pub moved : (ℕ → ℕ) → List ℕ → ℕ → ℕ → ℕ
   moved session_state ks id q = if is_in q ks then id else session_state q
 
-  pub joins : (id other : ℕ) (v w : View M S E) → v.numbers ≢ [] → w.held ≡ [] → w.place ≡ None → Joins (Kept r limit passes m) id v other w (both v w) spent
+  pub joins : (id other : ℕ) (v w : View M S E) → v.numbers ≢ [] → w.held ≡ [] → w.place ≡ None →
+      Joins (Kept r limit passes m) id v other w (both v w) spent
   joins id other v w active held place s k at apart at_other =
       let b : View M S E = both v w in
       let z : View M S E = spent in
@@ -116,20 +136,25 @@ module _ {M S E : Type 0} (r : Rules S E) (limit passes : ℕ) (m : M) where
         deep = k.deep;
         reserved = k.reserved;
         counted = k.counted;
-        numbers = (let t = total_set (λ (u : View M S E). length u.numbers) s.views id v b at in let u = total_set (λ (u : View M S E). length u.numbers) first other w z at_other in let o = k.numbers in
+        numbers = (let t = total_set (λ (u : View M S E). length u.numbers) s.views id v b at in let u =
+            total_set (λ (u : View M S E). length u.numbers) first other w z at_other in let o = k.numbers in
             let l = length-append v.numbers w.numbers in omega (arith, t, u, o, l));
-        room = (let t = total_set (λ (u : View M S E). u.room) s.views id v b at in let u = total_set (λ (u : View M S E). u.room) first other w z at_other in let o = k.room in omega (arith, t, u, o));
+        room = (let t = total_set (λ (u : View M S E). u.room) s.views id v b at in let u =
+            total_set (λ (u : View M S E). u.room) first other w z at_other in let o = k.room in omega (arith, t, u, o));
         parts = (λ p lt. ⊎_elim (λ h. inl h)
             (λ out. inr (
               out.0,
-              holds_set r limit passes m first other (k.owner p) p w z at_other (λ y h. absurd (cc (sym h ∙ ap (held_at p) held)))
+              holds_set r limit passes m first other (k.owner p) p w z at_other
+                  (λ y h. absurd (cc (sym h ∙ ap (held_at p) held)))
                   (holds_set r limit passes m s.views id (k.owner p) p v b at (λ y e. (y, e)) out.1),
             ))
             (k.parts p lt));
         places = (λ j lt. ⊎_elim (λ h. inl h) (λ f. inr (⊎_elim (λ g. inl g)
-            (λ a. inr (is_at_set r limit passes m first other (k.writer j) j w z at_other (sym place) (is_at_set r limit passes m s.views id (k.writer j) j v b at refl a))) f)) (k.places j lt));
+            (λ a. inr (is_at_set r limit passes m first other (k.writer j) j w z at_other (sym place)
+            (is_at_set r limit passes m s.views id (k.writer j) j v b at refl a))) f)) (k.places j lt));
         views = (λ j u g. ⊎_elim
-            (λ t. subst (λ (z : ℕ × View M S E). Knows r limit passes m k.log s.words k.owner k.writer session_state' z.0 z.1) (λ a. (sym t.0 a, t.1 a)) record {
+            (λ t. subst (λ (z : ℕ × View M S E). Knows r limit passes m k.log s.words k.owner k.writer session_state' z.0 z.1)
+            (λ a. (sym t.0 a, t.1 a)) record {
               machine = (λ q e. absurd (cc e));
               seen = (k.log, refl);
               mine = (λ q e. absurd (cc e));
@@ -141,19 +166,30 @@ module _ {M S E : Type 0} (r : Rules S E) (limit passes : ℕ) (m : M) where
               idle = (λ _. (refl, refl, refl));
             })
             (λ t. ⊎_elim
-            (λ h. subst (λ (z : ℕ × View M S E). Knows r limit passes m k.log s.words k.owner k.writer session_state' z.0 z.1) (λ a. (sym h.0 a, h.1 a)) record {
+            (λ h. subst (λ (z : ℕ × View M S E). Knows r limit passes m k.log s.words k.owner k.writer session_state' z.0 z.1)
+            (λ a. (sym h.0 a, h.1 a)) record {
               machine = kv.machine;
               seen = lg.0;
               mine = (λ q i. ⊎_elim
-                  (λ (theirs : is_in q w.numbers ≡ true). let o = kw.mine q theirs in (ap (λ c. if c then id else k.session_state q) theirs, o.1, squeezed q w.seen (longer v.seen w.seen) k.log lg.2 lg.0 o.2))
+                  (λ (theirs : is_in q w.numbers ≡ true). let o = kw.mine q theirs in (
+                    ap (λ c. if c then id else k.session_state q) theirs,
+                    o.1,
+                    squeezed q w.seen (longer v.seen w.seen) k.log lg.2 lg.0 o.2,
+                  ))
                   (λ (not : is_in q w.numbers ≡ false). ⊎_elim
-                  (λ own_one. let o = kv.mine q own_one in (ap (λ c. if c then id else k.session_state q) not ∙ o.0, o.1, squeezed q v.seen (longer v.seen w.seen) k.log lg.1 lg.0 o.2))
+                  (λ own_one. let o = kv.mine q own_one in (
+                    ap (λ c. if c then id else k.session_state q) not ∙ o.0,
+                    o.1,
+                    squeezed q v.seen (longer v.seen w.seen) k.log lg.1 lg.0 o.2,
+                  ))
                   (λ theirs. absurd (cc (sym not ∙ theirs)))
                   (in_both q v.numbers w.numbers i))
                   (yes_no (is_in q w.numbers)));
               told = (λ i q xs e. ⊎_elim
-                  (λ own_one. let o = recalled k.log s.words k.owner k.writer k.session_state id v kv i q xs own_one in (in_left q v.numbers w.numbers o.0, o.1, o.2))
-                  (λ theirs. let o = recalled k.log s.words k.owner k.writer k.session_state other w kw theirs.0 q xs theirs.1 in (in_right q v.numbers w.numbers o.0, o.1, o.2))
+                  (λ own_one. let o = recalled k.log s.words k.owner k.writer k.session_state id v kv i q xs own_one in
+                  (in_left q v.numbers w.numbers o.0, o.1, o.2))
+                  (λ theirs. let o = recalled k.log s.words k.owner k.writer k.session_state other w kw theirs.0 q xs theirs.1
+                  in (in_right q v.numbers w.numbers o.0, o.1, o.2))
                   (at_append (recall v) (recall w) i (q, xs) e));
               held = kv.held;
               place = kv.place;
@@ -182,10 +218,14 @@ module _ {M S E : Type 0} (r : Rules S E) (limit passes : ℕ) (m : M) where
 module _ {M S E : Type 0} where
   -- what either seat recalls, both recall
   pub recalls_left : (v w : View M S E) (k : ℕ) (xs : List (Entry S E)) → Recalls v k xs → Recalls (both v w) k xs
-  recalls_left v w k xs h = at_after (tells (v.numbers ++ w.numbers) (longer v.seen w.seen)) (recall v ++ recall w) h.0 (k, xs) (at_longer (recall v) (recall w) h.0 (k, xs) h.1)
+  recalls_left v w k xs h = at_after (tells (v.numbers ++ w.numbers) (longer v.seen w.seen)) (recall v ++ recall w) h.0 (
+    k,
+    xs,
+  ) (at_longer (recall v) (recall w) h.0 (k, xs) h.1)
 
   pub recalls_right : (v w : View M S E) (k : ℕ) (xs : List (Entry S E)) → Recalls w k xs → Recalls (both v w) k xs
-  recalls_right v w k xs h = let t = at_after (recall v) (recall w) h.0 (k, xs) h.1 in at_after (tells (v.numbers ++ w.numbers) (longer v.seen w.seen)) (recall v ++ recall w) t.0 (k, xs) t.1
+  recalls_right v w k xs h = let t = at_after (recall v) (recall w) h.0 (k, xs) h.1 in
+      at_after (tells (v.numbers ++ w.numbers) (longer v.seen w.seen)) (recall v ++ recall w) t.0 (k, xs) t.1
 
   -- a seat with one number recalls it
   pub recalls_own : (v : View M S E) (k : ℕ) → v.numbers ≡ k ∷ [] → Recalls v k v.seen

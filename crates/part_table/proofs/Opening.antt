@@ -24,18 +24,24 @@ pub counted_below : (q k n : ℕ) → is_in q (numbers_from k n) ≡ true → q 
 counted_below q k zero h = absurd (cc h)
 counted_below q k (suc n) h = ⊎_elim
     (λ (e : k ≡ q). omega (arith, e))
-    (λ ne. let t : q < k + 1 + n = counted_below q (k + 1) n (sym (ap (λ b. b || is_in q (numbers_from (k + 1) n)) (ne_eqb k q ne)) ∙ h) in omega (arith, t))
+    (λ ne. let t : q < k + 1 + n =
+    counted_below q (k + 1) n (sym (ap (λ b. b || is_in q (numbers_from (k + 1) n)) (ne_eqb k q ne)) ∙ h) in
+    omega (arith, t))
     (cases_eq k q)
 
 pub no_numbers : (n : ℕ) → n ≡ 0 → numbers_from 0 n ≡ []
 no_numbers n e = ap (numbers_from 0) e
 
 module _ {M S E : Type 0} (r : Rules S E) (limit passes : ℕ) (m : M) where
-  pub opens : (ws : List ℕ) (slots : List (Slot S E)) → length ws ≡ r.parts + 1 → ((i : ℕ) → i < length ws → slice_index ws i ≡ 0) → length slots ≡ r.parts + limit + 1
-      → ((p : ℕ) → p < r.parts → get_elem? slots p ≡ some (Part (r.opening p))) → ((j : ℕ) → j < limit → get_elem? slots (r.parts + j) ≡ some Empty)
-      → (xs : Vec S Global) (es : Vec E Global) → get_elem? slots (r.parts + limit) ≡ some (Lists xs es) → HasRoom r.parts limit xs es
+  pub opens : (ws : List ℕ) (slots : List (Slot S E)) → length ws ≡ r.parts + 1 →
+      ((i : ℕ) → i < length ws → slice_index ws i ≡ 0) → length slots ≡ r.parts + limit + 1
+      → ((p : ℕ) → p < r.parts → get_elem? slots p ≡ some (Part (r.opening p))) →
+      ((j : ℕ) → j < limit → get_elem? slots (r.parts + j) ≡ some Empty)
+      → (xs : Vec S Global) (es : Vec E Global) → get_elem? slots (r.parts + limit) ≡ some (Lists xs es) →
+      HasRoom r.parts limit xs es
       → Kept r limit passes m (opening ws slots (first_view m r.parts limit passes))
-  opens ws slots wide zeros deep parts places xs es lists room = let v : View M S E = first_view m r.parts limit passes in let word0 : slice_index ws 0 ≡ 0 = zeros 0 (omega (arith, wide)) in
+  opens ws slots wide zeros deep parts places xs es lists room = let v : View M S E = first_view m r.parts limit passes in
+      let word0 : slice_index ws 0 ≡ 0 = zeros 0 (omega (arith, wide)) in
       let many : length v.numbers ≡ passes = count_length 0 passes in record {
         log = [];
         owner = (λ p. 0);
@@ -53,7 +59,8 @@ module _ {M S E : Type 0} (r : Rules S E) (limit passes : ℕ) (m : M) where
         places = (λ j lt. inl (omega arith, at_map some slots (r.parts + j) Empty (places j lt)));
         views = (λ id u g. ⊎_elim
             (λ t. absurd (some-ne-none u (sym t)))
-            (λ t. subst (λ (z : ℕ × View M S E). Knows r limit passes m [] ws (λ p. 0) (λ j. 0) (λ k. 0) z.0 z.1) (λ a. (sym t.0 a, t.1 a)) record {
+            (λ t. subst (λ (z : ℕ × View M S E). Knows r limit passes m [] ws (λ p. 0) (λ j. 0) (λ k. 0) z.0 z.1)
+            (λ a. (sym t.0 a, t.1 a)) record {
               machine = (λ q e. (sym (cc e), refl, refl));
               seen = ([], refl);
               mine = (λ k h. (refl, (let b : k < 0 + passes = counted_below k 0 passes h in omega (arith, b)), refl));

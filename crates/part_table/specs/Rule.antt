@@ -21,12 +21,37 @@ numbers_from k (suc n) = k ∷ numbers_from (k + 1) n
 
 abbrev pub first_view : {M S E : Type 0} → M → ℕ → ℕ → ℕ → View M S E
 first_view m parts limit n =
-    record { machine = Some m; parts = parts; limit = limit; numbers = numbers_from 0 n; room = n; seen = []; told = []; held = []; place = None; said = None; ready = false }
+    record {
+      machine = Some m;
+      parts = parts;
+      limit = limit;
+      numbers = numbers_from 0 n;
+      room = n;
+      seen = [];
+      told = [];
+      held = [];
+      place = None;
+      said = None;
+      ready = false;
+    }
 
 -- the view of the first seat, once the passes below i have seats of their own
 abbrev pub dealt : {M S E : Type 0} → M → ℕ → ℕ → ℕ → ℕ → View M S E
 dealt m parts limit n i =
-    record { machine = Some m; parts = parts; limit = limit; numbers = numbers_from i (n - i); room = n - i; seen = []; told = []; held = []; place = None; said = None; ready = false }
+    record {
+      machine = Some m;
+      parts = parts;
+      limit = limit;
+      numbers = numbers_from i (n - i);
+      room = n - i;
+      seen = [];
+      told =
+          [];
+      held = [];
+      place = None;
+      said = None;
+      ready = false;
+    }
 
 -- the sum of f over all views
 abbrev pub sum_of_views : {A : Type 0} → (A → ℕ) → List A → ℕ
@@ -55,7 +80,8 @@ pub record HasRoom {S E : Type 0} (parts limit : ℕ) (xs : Vec S Global) (es : 
 -- such lists lie behind the journal
 abbrev pub Reserved : {S E : Type 0} → ℕ → ℕ → List (maybe.Option (Slot S E)) → Type 0
 Reserved {S} {E} parts limit homes =
-    (xs : Vec S Global) × (es : Vec E Global) × (get_elem? homes (parts + limit) ≡ some (some (Lists xs es))) × HasRoom parts limit xs es
+    (xs : Vec S Global) × (es : Vec E Global) × (get_elem? homes (parts + limit) ≡ some (some (Lists xs es)))
+    × HasRoom parts limit xs es
 
 module _ {M S E : Type 0} (r : Rules S E) (limit passes : ℕ) (m : M) (log : List (Entry S E)) where
   -- the part p lies at home with the history's value, or a seat has it
@@ -76,9 +102,12 @@ module _ {M S E : Type 0} (r : Rules S E) (limit passes : ℕ) (m : M) (log : Li
     pub machine : (q : M) → v.machine ≡ Some q → (q ≡ m) × (v.parts ≡ r.parts) × (v.limit ≡ limit)
     pub seen : IsPrefix v.seen log
     pub mine : (k : ℕ) → is_in k v.numbers ≡ true → (session_state k ≡ id) × (k < passes) × (own k log ≡ own k v.seen)
-    pub told : (i k : ℕ) (xs : List (Entry S E)) → get_elem? v.told i ≡ some (k, xs) → (is_in k v.numbers ≡ true) × IsPrefix xs log × (own k log ≡ own k xs)
-    pub held : (p : ℕ) (x : S) → held_at p v.held ≡ Some x → (owner p ≡ id) × (p < r.parts) × (slice_index words (p + 1) ≡ 1) × (x ≡ replay r log p)
-    pub place : (j : ℕ) → v.place ≡ Some j → (writer j ≡ id) × ((e : Entry S E) × (get_elem? log j ≡ some e) × (v.said ≡ Some (e.event, e.news)))
+    pub told : (i k : ℕ) (xs : List (Entry S E)) → get_elem? v.told i ≡ some (k, xs) → (is_in k v.numbers ≡ true)
+        × IsPrefix xs log × (own k log ≡ own k xs)
+    pub held : (p : ℕ) (x : S) → held_at p v.held ≡ Some x → (owner p ≡ id) × (p < r.parts) × (slice_index words (p + 1) ≡ 1)
+        × (x ≡ replay r log p)
+    pub place : (j : ℕ) → v.place ≡ Some j → (writer j ≡ id) × ((e : Entry S E) × (get_elem? log j ≡ some e)
+        × (v.said ≡ Some (e.event, e.news)))
     pub ready : v.ready ≡ true → 0 < v.room
     pub over : v.numbers ≢ [] → v.room ≡ 0 → limit ≤ slice_index words 0
     pub idle : v.numbers ≡ [] → (v.held ≡ []) × (v.place ≡ None) × (v.room ≡ 0)
@@ -98,7 +127,8 @@ pub record Kept {M S E : Type 0} (r : Rules S E) (limit passes : ℕ) (m : M) (s
   pub room : (slice_index s.words 0 - limit) + sum_of_views (λ (v : View M S E). v.room) s.views ≡ passes
   pub parts : (p : ℕ) → p < r.parts → InPlace r limit passes m log s.words s.homes s.views owner p
   pub places : (j : ℕ) → j < limit → Written r limit passes m log s.homes s.views writer j
-  pub views : (id : ℕ) (v : View M S E) → get_elem? s.views id ≡ some v → Knows r limit passes m log s.words owner writer session_state id v
+  pub views : (id : ℕ) (v : View M S E) → get_elem? s.views id ≡ some v →
+      Knows r limit passes m log s.words owner writer session_state id v
 
 -- a view that holds one part more
 abbrev pub holding : {M S E : Type 0} → View M S E → ℕ → S → View M S E
@@ -139,7 +169,8 @@ module _ {M S E : Type 0} where
   abbrev pub Lands : Rules S E → Me (Slot S E) (View M S E) → ℕ → Me (Slot S E) (View M S E) → Type 0
   Lands r m found n = (e : Entry S E) × (w : List (Entry S E)) × (between : List (Entry S E)) × (hs : List (ℕ × S))
       × (n ≡ (committed m.0 w hs found, (m.0.parts + found, Empty) ∷ m.1))
-      × (w ≡ (m.0.seen ++ between) ++ e ∷ []) × (m.0.said ≡ Some (e.event, e.news)) × (e.by ∷ [] ≡ m.0.numbers) × (hs ≡ held_pairs (r.touches e.event) e.news)
+      × (w ≡ (m.0.seen ++ between) ++ e ∷ []) × (m.0.said ≡ Some (e.event, e.news)) × (e.by ∷ [] ≡ m.0.numbers)
+      × (hs ≡ held_pairs (r.touches e.event) e.news)
       × IsLegal r w × (own e.by between ≡ []) × (length w ≡ found + 1)
 
   -- the journal was full
@@ -158,11 +189,14 @@ module _ {M S E : Type 0} where
   -- a step may follow, with the event that was announced; or the journal was full
   abbrev pub Looks : Step (Slot S E) → Me (Slot S E) (View M S E) → ℕ → Me (Slot S E) (View M S E) → Type 0
   Looks s m found n = (e : E) (xs : Vec S Global) → s.said ≡ some (Ask e xs)
-      → (w : List (Entry S E)) × IsPrefix m.0.seen w × Quiet m.0 w × MatchBool (ltb found m.0.limit) (n ≡ (looked m.0 w (e, xs.items), m.1)) ((n ≡ (saw m.0 w, m.1)) × (length w ≡ m.0.limit))
+      → (w : List (Entry S E)) × IsPrefix m.0.seen w × Quiet m.0 w
+      × MatchBool (ltb found m.0.limit) (n ≡ (looked m.0 w (e, xs.items), m.1)) ((n ≡ (saw m.0 w, m.1))
+      × (length w ≡ m.0.limit))
 
   -- the history so far was seen, and what is held is its replay
   abbrev pub Sees : Rules S E → Step (Slot S E) → Me (Slot S E) (View M S E) → ℕ → Me (Slot S E) (View M S E) → Type 0
-  Sees r s m found n = (w : List (Entry S E)) × (n ≡ (saw m.0 w, m.1)) × IsPrefix m.0.seen w × Quiet m.0 w × IsLegal r w × ((p : ℕ) (x : S) → held_at p m.0.held ≡ Some x → x ≡ replay r w p)
+  Sees r s m found n = (w : List (Entry S E)) × (n ≡ (saw m.0 w, m.1)) × IsPrefix m.0.seen w × Quiet m.0 w × IsLegal r w
+      × ((p : ℕ) (x : S) → held_at p m.0.held ≡ Some x → x ≡ replay r w p)
 
   abbrev pub placed : View M S E → View M S E
   placed v = record v { place = None }
@@ -189,10 +223,29 @@ module _ {M S E : Type 0} where
 
   -- two seats in one
   abbrev pub both : View M S E → View M S E → View M S E
-  both v w = record v { numbers = v.numbers ++ w.numbers; room = v.room + w.room; seen = longer v.seen w.seen; told = recall v ++ recall w }
+  both v w = record v {
+    numbers = v.numbers ++ w.numbers;
+    room = v.room + w.room;
+    seen = longer v.seen w.seen;
+    told =
+        recall v ++ recall w;
+  }
 
   abbrev pub spent : View M S E
-  spent = record { machine = None; parts = 0; limit = 0; numbers = []; room = 0; seen = []; told = []; held = []; place = None; said = None; ready = false }
+  spent = record {
+    machine = None;
+    parts = 0;
+    limit = 0;
+    numbers = [];
+    room = 0;
+    seen = [];
+    told = [];
+    held = [];
+    place =
+        None;
+    said = None;
+    ready = false;
+  }
 
   -- the first of the numbers, and the others
   abbrev pub head_view : View M S E → View M S E

@@ -52,7 +52,8 @@ pub record IsPassOf {M S E : Type 0} (t : Parts M S E) (p : PassView M S E) : Ty
   pub parts : p.parts ≡ t.table.shared.key.parts
   pub limit : p.limit ≡ t.table.shared.key.limit
 
-pub record IsTurn {M S E : Type 0} (number : ℕ) (ids : List ℕ) (states : List S) (words : ℕ) (me : Me (Slot S E) (View M S E)) : Type 0 where
+pub record IsTurn {M S E : Type 0} (number : ℕ) (ids : List ℕ) (states : List S) (words : ℕ)
+    (me : Me (Slot S E) (View M S E)) : Type 0 where
   pub holds : IsHolding number ids states me
   pub within : All (λ i. i + 1 < words) ids
   pub up : is_ascending 0 ids ≡ true
@@ -61,8 +62,10 @@ pub record IsTurn {M S E : Type 0} (number : ℕ) (ids : List ℕ) (states : Lis
 abbrev pub EachOnce : {M S E : Type 0} → ℕ → List (PassView M S E) → Type 0
 EachOnce n passes = IsPermutation (map (λ p. p.number) passes) (numbers_from 0 n)
 
--- what a table ends with: one history, which every pass has seen a beginning of and in which its own entries are those that it saw
-pub record Ends {M S E : Type 0} (r : Rules S E) (count passes : ℕ) (given : List (PassView M S E)) (log : List (Entry S E)) (states : List S) (events : List E) : Type 0 where
+-- what a table ends with: one history, which every pass has seen a beginning of and in which its own entries are those that
+-- it saw
+pub record Ends {M S E : Type 0} (r : Rules S E) (count passes : ℕ) (given : List (PassView M S E)) (log : List (Entry S E))
+    (states : List S) (events : List E) : Type 0 where
   pub legal : IsLegal r log
   pub journal : events ≡ map (λ e. e.event) log
   pub values : states ≡ map (replay r log) (numbers_from 0 count)

@@ -7,7 +7,9 @@ use Rattle.ignite_types.specs.declared.names.NodeId.{NodeId}
 use Rattle.ignite_types.specs.declared.placement.Row.{Row}
 use Rattle.partition_store.specs.Keeping.{copies_kept}
 
-pub kept_by_rows : (me : NodeId) (copies : List Copy) (rows : List Row) → copies_kept copies (map (λ (row : Row). has_node row.owners me) rows) ≡ kept_copies me copies rows
+pub kept_by_rows : (me : NodeId) (copies : List Copy) (rows : List Row) →
+    copies_kept copies (map (λ (row : Row). has_node row.owners me) rows) ≡ kept_copies me copies rows
 kept_by_rows me [] rows = refl
 kept_by_rows me (copy ∷ copies) [] = ap (λ rest. [] ∷ rest) (kept_by_rows me copies [])
-kept_by_rows me (copy ∷ copies) (row ∷ rows) = ap (λ rest. cond (has_node row.owners me) copy [] ∷ rest) (kept_by_rows me copies rows)
+kept_by_rows me (copy ∷ copies) (row ∷ rows) = ap (λ rest. cond (has_node row.owners me) copy [] ∷ rest)
+    (kept_by_rows me copies rows)

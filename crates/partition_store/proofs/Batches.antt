@@ -10,10 +10,13 @@ use Rattle.ignite_types.specs.declared.text.Key.{Key}
 abbrev pub is_value_after : Option Key → Key × Entry → Bool
 is_value_after after e = is_some e.1.value && is_after after e.0
 
-values_are : (copy : Copy) (after : Option Key) → map stored_entry (filter (is_value_after after) copy) ≡ values_after copy after
+values_are : (copy : Copy) (after : Option Key) → map stored_entry (filter (is_value_after after) copy)
+    ≡ values_after copy after
 values_are [] after = refl
 values_are (e ∷ es) after =
-    elim (is_value_after after e) as (λ b. map stored_entry (cond b (e ∷ filter (is_value_after after) es) (filter (is_value_after after) es)) ≡ cond b (stored_entry e ∷ values_after es after) (values_after es after)) [
+    elim (is_value_after after e) as (λ b.
+    map stored_entry (cond b (e ∷ filter (is_value_after after) es) (filter (is_value_after after) es))
+    ≡ cond b (stored_entry e ∷ values_after es after) (values_after es after)) [
       | true ↦ ap (λ r. stored_entry e ∷ r) (values_are es after)
       | false ↦ values_are es after
     ]
@@ -49,7 +52,8 @@ module _ {A : Type 0} where
       rw more (ap (λ r. x ∷ r) (take_present m xs))
 
   -- one more than the batch, or all of them, suffice for the batch
-  take_batch : (xs : List A) (most count room : ℕ) → length xs ≤ count → count < 2 ^ 64 → room ≡ min (min most count + 1) (2 ^ 64 - 1) → take most (take room xs) ≡ take most xs
+  take_batch : (xs : List A) (most count room : ℕ) → length xs ≤ count → count < 2 ^ 64 →
+      room ≡ min (min most count + 1) (2 ^ 64 - 1) → take most (take room xs) ≡ take most xs
   take_batch xs most count room few fits is_room =
       by (nat_le room most) refl
     where
@@ -58,7 +62,8 @@ module _ {A : Type 0} where
       by false h = take_less most room xs (grind (arith, nat_tests))
 
   -- and to tell whether it is the last
-  last_batch : (xs : List A) (most count room : ℕ) → length xs ≤ count → count < 2 ^ 64 → room ≡ min (min most count + 1) (2 ^ 64 - 1) → nat_le (length (take room xs)) most ≡ nat_le (length xs) most
+  last_batch : (xs : List A) (most count room : ℕ) → length xs ≤ count → count < 2 ^ 64 →
+      room ≡ min (min most count + 1) (2 ^ 64 - 1) → nat_le (length (take room xs)) most ≡ nat_le (length xs) most
   last_batch xs most count room few fits is_room = rw (length-take room xs) (grind (arith, nat_tests))
 
 map_take : {A B : Type 0} (f : A → B) (m : ℕ) (xs : List A) → map f (take m xs) ≡ take m (map f xs)
@@ -70,17 +75,21 @@ length_map : {A B : Type 0} (f : A → B) (xs : List A) → length (map f xs) �
 length_map f [] = refl
 length_map f (x ∷ xs) = ap suc (length_map f xs)
 
-module _ (copy first : Copy) (after : Option Key) (most count room : ℕ) (is_count : count ≡ length copy) (fits : count < 2 ^ 64) (is_room : room ≡ min (min most count + 1) (2 ^ 64 - 1))
+module _ (copy first : Copy) (after : Option Key) (most count room : ℕ) (is_count : count ≡ length copy)
+    (fits : count < 2 ^ 64) (is_room : room ≡ min (min most count + 1) (2 ^ 64 - 1))
     (is_first : first ≡ take room (filter (is_value_after after) copy)) where
   few : length (filter (is_value_after after) copy) ≤ count
   few = omega (arith, length_filter (is_value_after after) copy)
 
   pub batch_is : entries_of (take (min (length first) most) first) ≡ batch_of copy after most
   batch_is =
-      ap (map stored_entry) (take_present most first ∙ ap (take most) is_first ∙ take_batch (filter (is_value_after after) copy) most count room few fits is_room)
+      ap (map stored_entry) (take_present most first ∙ ap (take most) is_first
+      ∙ take_batch (filter (is_value_after after) copy) most count room few fits is_room)
       ∙ map_take stored_entry most (filter (is_value_after after) copy) ∙ ap (take most) (values_are copy after)
 
   pub last_is : nat_le (length first) most ≡ is_last_batch copy after most
   last_is =
-      ap (λ xs. nat_le (length xs) most) is_first ∙ last_batch (filter (is_value_after after) copy) most count room few fits is_room
-      ∙ ap (λ n. nat_le n most) (sym (length_map stored_entry (filter (is_value_after after) copy)) ∙ ap length (values_are copy after))
+      ap (λ xs. nat_le (length xs) most) is_first ∙ last_batch (filter (is_value_after after) copy) most count room few fits
+      is_room
+      ∙ ap (λ n. nat_le n most) (sym (length_map stored_entry (filter (is_value_after after) copy))
+      ∙ ap length (values_are copy after))

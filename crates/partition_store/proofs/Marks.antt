@@ -20,7 +20,8 @@ AreAbove cmp k (j ∷ js) = (cmp j k ≡ Greater) × AreAbove cmp k js
 
 module _ {K V : Type 0} (cmp : K → K → Ordering) where
   -- taking out keys above the first one leaves it
-  first_stays : (e : K × V) (es : List (K × V)) (ks : List K) → AreAbove cmp e.0 ks → without_each cmp (e ∷ es) ks ≡ e ∷ without_each cmp es ks
+  first_stays : (e : K × V) (es : List (K × V)) (ks : List K) → AreAbove cmp e.0 ks →
+      without_each cmp (e ∷ es) ks ≡ e ∷ without_each cmp es ks
   first_stays e es [] above = refl
   first_stays e es (k ∷ ks) above = rw above.0 (first_stays e (without cmp es k) ks above.1)
 
@@ -34,13 +35,17 @@ module _ {K V : Type 0} (cmp : K → K → Ordering) where
         ]
 
     -- what stays is what fails the test
-    pub without_passing : (es : List (K × V)) → IsAscending cmp es → filter (λ e. not (test e)) es ≡ without_each cmp es (keys_where test es)
+    pub without_passing : (es : List (K × V)) → IsAscending cmp es → filter (λ e. not (test e)) es ≡ without_each cmp es
+        (keys_where test es)
     without_passing [] ascending = refl
     without_passing (e ∷ es) ascending =
-        elim (test e) as (λ b. cond (not b) (e ∷ filter (λ e. not (test e)) es) (filter (λ e. not (test e)) es) ≡ without_each cmp (e ∷ es) (cond b (e.0 ∷ keys_where test es) (keys_where test es))) [
+        elim (test e) as (λ b. cond (not b) (e ∷ filter (λ e. not (test e)) es) (filter (λ e. not (test e)) es)
+        ≡ without_each cmp (e ∷ es) (cond b (e.0 ∷ keys_where test es) (keys_where test es))) [
           | true ↦ rw (tied_itself o e.0, without_each) (without_passing es ascending.1)
-          | false ↦ ap (λ r. e ∷ r) (without_passing es ascending.1) ∙ sym (first_stays e es (keys_where test es) (above_first e.0 es ascending.0))
+          | false ↦ ap (λ r. e ∷ r) (without_passing es ascending.1)
+              ∙ sym (first_stays e es (keys_where test es) (above_first e.0 es ascending.0))
         ]
 
-pub tombstones_dropped : (copy : Copy) → IsAscending key_cmp copy → filter (λ e. not (is_tombstone e)) copy ≡ without_tombstones copy
+pub tombstones_dropped : (copy : Copy) → IsAscending key_cmp copy → filter (λ e. not (is_tombstone e)) copy
+    ≡ without_tombstones copy
 tombstones_dropped copy ascending = without_passing key_cmp key_total is_tombstone copy ascending

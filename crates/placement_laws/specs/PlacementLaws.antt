@@ -39,7 +39,8 @@ installs_fitting fits ts r = true
 -- each map that is installed has a row for each partition, and an owner only where the cache is one of its version
 abbrev pub owned_only_where_run : Journal → Bool
 owned_only_where_run j = let ts = topologies j in
-    each_record (λ (before : List Noted) (n : Noted). installs_fitting (is_bare_in j.scenario) ts n.rec) (noted j.scenario j.groups)
+    each_record (λ (before : List Noted) (n : Noted). installs_fitting (is_bare_in j.scenario) ts n.rec)
+    (noted j.scenario j.groups)
 
 -- the owners and movers of a row are such nodes
 abbrev pub holds_only : (NodeId → Bool) → Row → Bool

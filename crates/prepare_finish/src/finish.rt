@@ -29,7 +29,8 @@ fn readers_but_me(node: &Node, key: &Key) -> Mem<List<NodeId>>
 
 /// One update of this write to each reader of its key.
 fn update_outs(node: &Node, tx: TxId, write: &Stored) -> Mem<List<Out>>
-    ensures { IfOk result (λ outs. outs ≡ outs_to (readers_but_me node.now write.now.key) (msg.NearUpdate tx write.now.key write.now.value write.now.ver)) }
+    ensures { IfOk result (λ outs. outs ≡ outs_to (readers_but_me node.now write.now.key)
+        (msg.NearUpdate tx write.now.key write.now.value write.now.ver)) }
 {
     let readers = readers_but_me(node, &write.key)?;
     let message = Message::NearUpdate {

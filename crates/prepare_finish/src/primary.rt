@@ -178,7 +178,8 @@ pub fn on_prepare(
 /// A holder's or reader's answer is no longer awaited.
 #[tactic(auto, using(act_rows::proofs::TableLaws::tx_put_put))]
 pub(crate) fn stop_awaiting(node: &mut Node, tx: TxId, from: NodeId) -> Mem<()>
-    ensures { OnOk result (node.new ≡ on_share node.old tx (λ h. record h { awaited = without_member node_cmp h.awaited from }) (share_of node.old tx)) }
+    ensures { OnOk result (node.new ≡ on_share node.old tx
+        (λ h. record h { awaited = without_member node_cmp h.awaited from }) (share_of node.old tx)) }
 {
     let Some(mut share) = node.take_share(tx) else {
         return Ok(());

@@ -225,7 +225,8 @@ pub fn shown_map(
     top: TopVer,
     commits: &[CommitEntry],
 ) -> Mem<List<(Key, Value)>>
-    ensures { IfOk result (λ shown. shown ≡ shown_entries (caches_of scenario.now events.now top) (map_after_commits [] commits.now)) }
+    ensures { IfOk result (λ shown. shown ≡ shown_entries (caches_of scenario.now events.now top)
+        (map_after_commits [] commits.now)) }
 {
     let running = caches_of(alloc, scenario, events, top)?;
     let map = map_after(alloc, commits)?;

@@ -37,7 +37,8 @@ fn told_by(
     answer: &Answer,
 ) -> Mem<(Progress, List<Told>)>
     ensures progress { IfOk result (λ r. r.0 ≡ (advance script.now progress.now answer.now).progress) }
-    ensures told { IfOk result (λ r. r.1 ≡ sessions.told_by script.now progress.now answer.now (slice_get script.now progress.now.place)) }
+    ensures told { IfOk result (λ r. r.1 ≡ sessions.told_by script.now progress.now answer.now
+        (slice_get script.now progress.now.place)) }
 {
     let (next, mut told) = advance_told(alloc, script, progress, answer)?;
     if script.get(progress.place as usize).is_none() {
@@ -140,7 +141,8 @@ fn write_session(
     answers: &[Answer],
     stands: Option<&Standing>,
 ) -> Mem<()>
-    ensures { OnOk result (out.new ≡ out.old ++ sessions.session_lines scenario.now session.now answers.now (option_copied stands.entry)) }
+    ensures { OnOk result (out.new ≡ out.old ++ sessions.session_lines scenario.now session.now answers.now
+        (option_copied stands.entry)) }
 {
     let all = all_told(alloc, session.commands.as_slice(), answers)?;
     write_session_line(out, session)?;
@@ -156,7 +158,8 @@ pub fn write_sessions(
     given: &[Given],
     shown: &Outlook,
 ) -> Mem<()>
-    ensures { OnOk result (out.new ≡ out.old ++ sessions.sessions_lines scenario.now given.now shown.now.standings 0 scenario.now.sessions) }
+    ensures { OnOk result (out.new ≡ out.old ++ sessions.sessions_lines scenario.now given.now shown.now.standings 0
+        scenario.now.sessions) }
 {
     for (place, session) in scenario.sessions.as_slice().iter().enumerate() {
         let answers = answers_to(alloc, place + 1, given)?;

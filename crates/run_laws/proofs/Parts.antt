@@ -8,7 +8,8 @@ use Rattle.tx_model.specs.World.{Part, is_alive}
 abbrev pub numbers : List Part → List NodeId
 numbers ps = map (λ (p : Part). p.node.me) ps
 
-pub same_numbers : (ps : List Part) (k : ℕ) (p q : Part) → slice_get ps k ≡ Some p → q.node.me ≡ p.node.me → numbers (slice_set ps k q) ≡ numbers ps
+pub same_numbers : (ps : List Part) (k : ℕ) (p q : Part) → slice_get ps k ≡ Some p → q.node.me ≡ p.node.me →
+    numbers (slice_set ps k q) ≡ numbers ps
 same_numbers [] k p q here same = refl
 same_numbers (x ∷ ps) zero p q here same =
     let is : x ≡ p = cc in
@@ -20,12 +21,14 @@ same_length [] k x = refl
 same_length (y ∷ ys) zero x = refl
 same_length (y ∷ ys) (suc k) x = ap suc (same_length ys k x)
 
-pub set_in_time : (clock : ℕ) (ps : List Part) (k : ℕ) (q : Part) → InTime clock ps → (is_alive q.life ≡ true → q.node.now ≡ clock) → InTime clock (slice_set ps k q)
+pub set_in_time : (clock : ℕ) (ps : List Part) (k : ℕ) (q : Part) → InTime clock ps →
+    (is_alive q.life ≡ true → q.node.now ≡ clock) → InTime clock (slice_set ps k q)
 set_in_time clock [] k q all one = tt
 set_in_time clock (p ∷ ps) zero q all one = (one, all.1)
 set_in_time clock (p ∷ ps) (suc k) q all one = (all.0, set_in_time clock ps k q all.1 one)
 
-pub in_time_at : (clock : ℕ) (ps : List Part) (k : ℕ) (p : Part) → slice_get ps k ≡ Some p → InTime clock ps → is_alive p.life ≡ true → p.node.now ≡ clock
+pub in_time_at : (clock : ℕ) (ps : List Part) (k : ℕ) (p : Part) → slice_get ps k ≡ Some p → InTime clock ps →
+    is_alive p.life ≡ true → p.node.now ≡ clock
 in_time_at clock [] k p here all alive = absurd (cc)
 in_time_at clock (x ∷ ps) zero p here all alive =
     let is : x ≡ p = cc in

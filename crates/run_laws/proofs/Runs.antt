@@ -23,4 +23,5 @@ opening_in_time scenario m [] = tt
 opening_in_time scenario m (id ∷ ids) = (λ alive. refl, opening_in_time scenario m ids)
 
 pub clocks_agree : (scenario : Scenario) (gs : List Group) → ClocksAgree scenario gs
-clocks_agree scenario gs = (keeps (opening scenario) gs).in_time (opening_in_time scenario (opening_map_of scenario) (ids_of scenario))
+clocks_agree scenario gs =
+    (keeps (opening scenario) gs).in_time (opening_in_time scenario (opening_map_of scenario) (ids_of scenario))

@@ -1,4 +1,5 @@
--- What every event of the world leaves alone: its declared nodes, their inboxes, the sessions' nodes, the plan, and the topology
+-- What every event of the world leaves alone: its declared nodes, their inboxes, the sessions' nodes, the plan, and the
+-- topology
 -- events so far; and that the clock of each live node is the directory's.
 use Rattle.std.specs.Prelude.{List, [], length, true, ℕ, ◌++◌, ◌∷◌, ◌≡◌}
 use Rattle.ignite_types.specs.declared.journal.TopoEvent.{TopoEvent}

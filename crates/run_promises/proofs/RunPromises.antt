@@ -40,34 +40,46 @@ use Rattle.ignite_types.specs.declared.journal.Rec.TheVariants as note
 
 -- Versions open when each live member has installed their map.
 
-installed_there : (before : List Noted) (top : TopVer) (node : NodeId) → has_installed before top node ≡ has_noted_map before top node
+installed_there : (before : List Noted) (top : TopVer) (node : NodeId) →
+    has_installed before top node ≡ has_noted_map before top node
 installed_there [] top node = refl
 installed_there (n ∷ ns) top node = by (is_node node n.node) (installed_there ns top node)
   where
-    by : (c : Bool) → list_any (is_install_of top) (recs_of node ns) ≡ has_noted_map ns top node → list_any (is_install_of top) ((if c then n.rec ∷ [] else []) ++ recs_of node ns) ≡ ((c && is_install_of_version top n.rec) || has_noted_map ns top node)
+    by : (c : Bool) → list_any (is_install_of top) (recs_of node ns) ≡ has_noted_map ns top node →
+        list_any (is_install_of top) ((if c then n.rec ∷ [] else []) ++ recs_of node ns)
+        ≡ ((c && is_install_of_version top n.rec) || has_noted_map ns top node)
     by true rest = one n.rec rest
       where
-        one : (r : Rec) → list_any (is_install_of top) (recs_of node ns) ≡ has_noted_map ns top node → (is_install_of top r || list_any (is_install_of top) (recs_of node ns)) ≡ (is_install_of_version top r || has_noted_map ns top node)
+        one : (r : Rec) → list_any (is_install_of top) (recs_of node ns) ≡ has_noted_map ns top node →
+            (is_install_of top r || list_any (is_install_of top) (recs_of node ns)) ≡ (is_install_of_version top r
+            || has_noted_map ns top node)
         one (note.Install m) rest = ap (λ (b : Bool). same_top m.top top || b) rest
         one _ rest = rest
     by false rest = rest
 
-all_installed : (before : List Noted) (top : TopVer) (ms : List Member) → list_all (is_lost_or_has_installed before top) ms ≡ list_all (λ (m : Member). is_lost before m.node || has_installed before top m.node) ms
-all_installed before top ms = λ i. list_all (λ (m : Member). is_lost before m.node || sym (installed_there before top m.node) i) ms
+all_installed : (before : List Noted) (top : TopVer) (ms : List Member) → list_all (is_lost_or_has_installed before top) ms
+    ≡ list_all (λ (m : Member). is_lost before m.node || has_installed before top m.node) ms
+all_installed before top ms =
+    λ i. list_all (λ (m : Member). is_lost before m.node || sym (installed_there before top m.node) i) ms
 
-opening_of : (ts : List Topology) (before : List Noted) (r : Rec) → is_opened_after_all ts before r ≡ true → opening_fits ts before r ≡ true
+opening_of : (ts : List Topology) (before : List Noted) (r : Rec) → is_opened_after_all ts before r ≡ true →
+    opening_fits ts before r ≡ true
 opening_of ts before (note.Opened top) after =
-    or_second (list_any (same_top top) (opened_before before)) (members_installed before top (topology_of ts top)) (by (topology_of ts top) after)
+    or_second (list_any (same_top top) (opened_before before)) (members_installed before top (topology_of ts top))
+    (by (topology_of ts top) after)
   where
     by : (o : Option Topology) → all_have_map before top o ≡ true → members_installed before top o ≡ true
     by None none = absurd (cc (none))
     by (Some t) all = sym (all_installed before top t.members) ∙ all
 opening_of ts before _ after = refl
 
-each_opening : (ts : List Topology) (before ns : List Noted) → each_from (λ (xs : List Noted) (n : Noted). is_opened_after_all ts xs n.rec) before ns ≡ true → each_from (λ (xs : List Noted) (n : Noted). opening_fits ts xs n.rec) before ns ≡ true
+each_opening : (ts : List Topology) (before ns : List Noted) →
+    each_from (λ (xs : List Noted) (n : Noted). is_opened_after_all ts xs n.rec) before ns ≡ true →
+    each_from (λ (xs : List Noted) (n : Noted). opening_fits ts xs n.rec) before ns ≡ true
 each_opening ts before [] all = refl
 each_opening ts before (n ∷ ns) all =
-    let both = first_rest (is_opened_after_all ts before n.rec) (each_from (λ (xs : List Noted) (x : Noted). is_opened_after_all ts xs x.rec) (before ++ n ∷ []) ns) all in
+    let both = first_rest (is_opened_after_all ts before n.rec)
+    (each_from (λ (xs : List Noted) (x : Noted). is_opened_after_all ts xs x.rec) (before ++ n ∷ []) ns) all in
     rw (opening_of ts before n.rec both.0) (each_opening ts (before ++ n ∷ []) ns both.1)
 
 -- Of every run.
@@ -104,4 +116,5 @@ promises_hold events short j run = record {
 
 -- of each legal run of a good scenario that is short enough
 pub promised : (j : Journal) → IsTrue (good j.scenario) → IsLegal j → length j.groups < 2 ^ 62 → RunPromises j
-promised j is_good is_legal few = promises_hold (length j.groups) (lt-ltb (length j.groups) (2 ^ 62) few) j (record { is_good = is_good; is_legal = is_legal; has_events = refl })
+promised j is_good is_legal few = promises_hold (length j.groups) (lt-ltb (length j.groups) (2 ^ 62) few) j
+    (record { is_good = is_good; is_legal = is_legal; has_events = refl })

@@ -1,4 +1,5 @@
--- What is proved of the journal of every legal run of a good scenario, whatever the order of its events: one field a promise. The
+-- What is proved of the journal of every legal run of a good scenario, whatever the order of its events: one field a promise.
+-- The
 -- statements of journal_statements have their names there; docs/PROMISES.md says them in plain words.
 use Rattle.std.specs.Prelude.{true, ◌≡◌}
 use Rattle.commit_laws.specs.CommitLaws.{applies_are_committed}
@@ -26,7 +27,8 @@ pub record RunPromises (j : Journal) : Type 0 where
   -- at most one transaction holds a key at a node
   pub one_holder : one_holder j ≡ true
   -- Topology versions and maps.
-  -- a map is the one of its version, or the next map of one Single from each member, as its oldest member was brought them; there, and
+  -- a map is the one of its version, or the next map of one Single from each member, as its oldest member was brought them;
+  -- there, and
   -- in the map that the run begins with, a partition has an owner exactly where its cache is one of the version
   pub maps : maps j ≡ true
   -- all maps of one version that nodes install are one map
@@ -38,7 +40,8 @@ pub record RunPromises (j : Journal) : Type 0 where
   -- where a version is opened each of its members is lost or has installed its map
   pub opens_after_all : opens_after_all j ≡ true
   pub opened_when_installed : opened_when_installed j ≡ true
-  -- the map of a version is handed out, and its opening told, by the version's oldest member alone; the map is the installed one
+  -- the map of a version is handed out, and its opening told, by the version's oldest member alone; the map is the installed
+  -- one
   pub one_coordinator : one_coordinator j ≡ true
   -- in the highest map that is installed at a node which is not lost each partition that has owners has one that is not lost
   pub owners_left : owners_left j ≡ true
@@ -65,12 +68,15 @@ pub record RunPromises (j : Journal) : Type 0 where
   pub finds_reach_starters : finds_reach_starters j ≡ true
   -- each write that a node applies stands behind a commit decision of its transaction
   pub applies_are_committed : applies_are_committed j ≡ true
-  -- where topology stands still: at the end an undecided pessimistic transaction owns each key that it has accessed, or waits for it;
+  -- where topology stands still: at the end an undecided pessimistic transaction owns each key that it has accessed, or waits
+  -- for it;
   -- its Lock of a key, its place in the key's queue and its LockOk are one token
   pub keys_are_owned_in_still_topology : topology_stands j.scenario ≡ true → OwnsItsKeys (last_scene j)
   pub locks_are_tokens_in_still_topology : topology_stands j.scenario ≡ true → LocksAreTokens (last_scene j)
-  -- there too: at the end each primary that an undecided transaction's starter has counted has its own share Prepared, and so has
-  -- each other holder that the starter names; what ends a transaction carries its starter's decision, and a commit meets a Prepared
+  -- there too: at the end each primary that an undecided transaction's starter has counted has its own share Prepared, and so
+  -- has
+  -- each other holder that the starter names; what ends a transaction carries its starter's decision, and a commit meets a
+  -- Prepared
   -- share
   pub votes_stand_in_still_topology : topology_stands j.scenario ≡ true → VotesStand (last_scene j)
   pub ends_are_decided_in_still_topology : topology_stands j.scenario ≡ true → EndsStand (last_scene j)

@@ -20,7 +20,8 @@ setting_text word n = word ++ decimal n ++ 10 ∷ []
 
 abbrev pub settings_text : Cache → List ℕ
 settings_text cache =
-    setting_text (codes "parts ") cache.parts ++ setting_text (codes "backups ") cache.backups ++ setting_text (codes "near ") cache.near
+    setting_text (codes "parts ") cache.parts ++ setting_text (codes "backups ") cache.backups ++ setting_text
+    (codes "near ") cache.near
 
 -- the settings of the one cache of format 1
 abbrev pub first_text : List Cache → List ℕ
@@ -36,7 +37,8 @@ cache_line_text cache =
 -- the lines before those of the nodes
 abbrev pub head_text : Scenario → List ℕ
 head_text s =
-    if s.format == 2 then codes "scenario 2\n" ++ flat_map cache_line_text s.caches else codes "scenario 1\n" ++ first_text s.caches
+    if s.format == 2 then codes "scenario 2\n" ++ flat_map cache_line_text s.caches else codes "scenario 1\n"
+    ++ first_text s.caches
 
 abbrev pub role_text : Bool → List ℕ
 role_text server = if server then codes "server" else codes "client"
@@ -75,7 +77,8 @@ item_line_text s item = item_text s item ++ 10 ∷ []
 -- a session's lines, from `session` to `end`
 abbrev pub session_text : Scenario → Session → List ℕ
 session_text s session =
-    codes "session " ++ session.name ++ (32 ∷ decimal session.node.0) ++ 10 ∷ [] ++ flat_map (item_line_text s) session.commands ++ codes "end\n"
+    codes "session " ++ session.name ++ (32 ∷ decimal session.node.0) ++ 10 ∷ [] ++ flat_map
+    (item_line_text s) session.commands ++ codes "end\n"
 
 -- the canonical text of a scenario: each default is written, one space stands between words, and no line is blank or a
 -- remark

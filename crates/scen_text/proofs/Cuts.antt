@@ -17,18 +17,21 @@ is_space byte = byte == 32
 -- what a place says of the first element that passes
 pub place_none : (p : ℕ → Bool) (xs : List ℕ) → position p xs ≡ None → length xs ≤ position_or_len p xs
 place_none p xs h =
-    elim (ltb (position_or_len p xs) (length xs)) as (λ r. ltb (position_or_len p xs) (length xs) ≡ r → length xs ≤ position_or_len p xs) [
+    elim (ltb (position_or_len p xs) (length xs)) as (λ r. ltb (position_or_len p xs) (length xs) ≡ r →
+    length xs ≤ position_or_len p xs) [
       | true ↦ λ e. absurd (let g : Some (position_or_len p xs) ≡ None = rw e at h in cc)
       | false ↦ λ e. ltb-false _ _ e
     ] refl
 
-pub place_some : (p : ℕ → Bool) (xs : List ℕ) (n : ℕ) → position p xs ≡ Some n → (position_or_len p xs < length xs) × (position_or_len p xs ≡ n)
+pub place_some : (p : ℕ → Bool) (xs : List ℕ) (n : ℕ) → position p xs ≡ Some n → (position_or_len p xs < length xs)
+    × (position_or_len p xs ≡ n)
 place_some p xs n h =
     let parts = cond_some (ltb (position_or_len p xs) (length xs)) (position_or_len p xs) n h in
     (ltb-true _ _ parts.0, parts.1)
 
 -- the same of a list of anything
-pub place_some_of : {A : Type 0} (p : A → Bool) (xs : List A) (n : ℕ) → position p xs ≡ Some n → (position_or_len p xs < length xs) × (position_or_len p xs ≡ n)
+pub place_some_of : {A : Type 0} (p : A → Bool) (xs : List A) (n : ℕ) → position p xs ≡ Some n →
+    (position_or_len p xs < length xs) × (position_or_len p xs ≡ n)
 place_some_of p xs n h =
     let parts = cond_some (ltb (position_or_len p xs) (length xs)) (position_or_len p xs) n h in
     (ltb-true _ _ parts.0, parts.1)
@@ -44,11 +47,13 @@ split_whole p (x ∷ xs) h =
     ] refl
 
 -- behind a part comes another one
-next_part : (line : List ℕ) (parts : List (List ℕ)) → 0 < length parts → lines_of_parts (line ∷ parts) ≡ strip_carriage_return line ∷ lines_of_parts parts
+next_part : (line : List ℕ) (parts : List (List ℕ)) → 0 < length parts →
+    lines_of_parts (line ∷ parts) ≡ strip_carriage_return line ∷ lines_of_parts parts
 next_part line [] h = absurd (omega arith)
 next_part line (part ∷ more) h = refl
 
-pub lines_first : (text : List ℕ) → position_or_len is_feed text < length text → lines text ≡ strip_carriage_return (before_first is_feed text) ∷ lines (after_first is_feed text)
+pub lines_first : (text : List ℕ) → position_or_len is_feed text < length text →
+    lines text ≡ strip_carriage_return (before_first is_feed text) ∷ lines (after_first is_feed text)
 lines_first text h =
     rw (slice_split_first is_feed text 0 h)
     (next_part (before_first is_feed text) (slice_split is_feed (after_first is_feed text))
@@ -65,7 +70,8 @@ bytes_in_take zero xs n l = absurd (omega arith)
 bytes_in_take (suc n) [] p l = absurd (omega arith)
 bytes_in_take (suc n) (x ∷ xs) p l = refl
 
-pub words_first : (line : List ℕ) → begins_with_space line ≡ false → position_or_len is_space line < length line → words line ≡ before_first is_space line ∷ words (after_first is_space line)
+pub words_first : (line : List ℕ) → begins_with_space line ≡ false → position_or_len is_space line < length line →
+    words line ≡ before_first is_space line ∷ words (after_first is_space line)
 words_first [] s h = absurd (omega arith)
 words_first (b ∷ bs) s h =
     let place : position_or_len is_space (b ∷ bs) ≡ 1 + position_or_len is_space bs = rw s refl in

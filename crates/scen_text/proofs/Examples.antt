@@ -98,7 +98,8 @@ unfolding digits is_utf8 chars encode_utf8
 second_again = refl
 
 -- a word past its limit comes before a moment that falls, and a node may be named by a later line
-limit_first : scenario_of (codes "scenario 1\nserver 1\nplan 5 lose 1\nplan 4 lose 100\n") ≡ Err (record { line = 4; cause = Limit what.Plan })
+limit_first : scenario_of (codes "scenario 1\nserver 1\nplan 5 lose 1\nplan 4 lose 100\n")
+    ≡ Err (record { line = 4; cause = Limit what.Plan })
 unfolding is_utf8 chars encode_utf8
 limit_first = refl
 

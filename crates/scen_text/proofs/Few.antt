@@ -22,7 +22,8 @@ abbrev pub Few : Draft → Type 0
 Few d = length d.caches ≤ 8
 
 few_default : (format : ℕ) (cache : Cache) → length (if format == 1 then cache ∷ [] else []) ≤ 8
-few_default format cache = cond_both (format == 1) (cache ∷ []) [] (λ (cs : List Cache). length cs ≤ 8) (λ t. lit≤ {m = 1} {n = 8} tt) (λ f. lit≤ {m = 0} {n = 8} tt)
+few_default format cache = cond_both (format == 1) (cache ∷ []) [] (λ (cs : List Cache). length cs ≤ 8)
+    (λ t. lit≤ {m = 1} {n = 8} tt) (λ f. lit≤ {m = 0} {n = 8} tt)
 
 few_head : (d : Draft) (format : ℕ) → Holds Few (with_head d format)
 few_head d format = search (rule_then, few_default)
@@ -30,9 +31,11 @@ few_head d format = search (rule_then, few_default)
 few_setting : (d : Draft) (setting : Setting) (n : ℕ) → Holds Few (with_setting d setting n)
 few_setting d setting n = let few : 1 ≤ 8 = lit≤ tt in search (rule_then, few)
 
-pub one_more : (d : Draft) (cache : Cache) (parts : ℕ) → Holds (λ total. length (d.caches ++ cache ∷ []) ≤ 8) (total_with d parts)
+pub one_more : (d : Draft) (cache : Cache) (parts : ℕ) → Holds (λ total. length (d.caches ++ cache ∷ []) ≤ 8)
+    (total_with d parts)
 one_more d cache parts =
-    cond_both (nat_lt (length d.caches) 8 && nat_le (d.partitions + parts) 1024) _ _ (Holds (λ total. length (d.caches ++ cache ∷ []) ≤ 8))
+    cond_both (nat_lt (length d.caches) 8 && nat_le (d.partitions + parts) 1024) _ _
+    (Holds (λ total. length (d.caches ++ cache ∷ []) ≤ 8))
     (λ e. let below : length d.caches < 8 = ltb-true _ _ (and_parts (nat_lt (length d.caches) 8) _ e).0 in
     omega (arith, length-append d.caches (cache ∷ [])))
     (λ e. tt)
@@ -40,14 +43,20 @@ one_more d cache parts =
 few_cache : (d : Draft) (is_data : Bool) (words : CacheWords) → Holds Few (with_cache d is_data words)
 few_cache d is_data words = search (rule_then, any_then {A = Cache} {B = Draft}, then_total d) depth 12
   where
-    then_total : (d : Draft) (cache : Cache) (next : ℕ → Result Draft Cause) → ((total : ℕ) → length (d.caches ++ cache ∷ []) ≤ 8 → Holds Few (next total)) → Holds Few (total_with d cache.parts >>= next)
-    then_total d cache next f = then_holds Few (λ total. length (d.caches ++ cache ∷ []) ≤ 8) (total_with d cache.parts) next (one_more d cache cache.parts) f
+    then_total : (d : Draft) (cache : Cache) (next : ℕ → Result Draft Cause) →
+        ((total : ℕ) → length (d.caches ++ cache ∷ []) ≤ 8 → Holds Few (next total)) →
+        Holds Few (total_with d cache.parts >>= next)
+    then_total d cache next f = then_holds Few (λ total. length (d.caches ++ cache ∷ []) ≤ 8) (total_with d cache.parts) next
+        (one_more d cache cache.parts) f
 
 few_start : (d : Draft) (moment : ℕ) (words : CacheWords) → Holds Few (with_start d moment words)
 few_start d moment words = search (rule_then, any_then {A = Cache} {B = Draft}, then_total d) depth 16
   where
-    then_total : (d : Draft) (cache : Cache) (next : ℕ → Result Draft Cause) → ((total : ℕ) → length (d.caches ++ cache ∷ []) ≤ 8 → Holds Few (next total)) → Holds Few (total_with d cache.parts >>= next)
-    then_total d cache next f = then_holds Few (λ total. length (d.caches ++ cache ∷ []) ≤ 8) (total_with d cache.parts) next (one_more d cache cache.parts) f
+    then_total : (d : Draft) (cache : Cache) (next : ℕ → Result Draft Cause) →
+        ((total : ℕ) → length (d.caches ++ cache ∷ []) ≤ 8 → Holds Few (next total)) →
+        Holds Few (total_with d cache.parts >>= next)
+    then_total d cache next f = then_holds Few (λ total. length (d.caches ++ cache ∷ []) ≤ 8) (total_with d cache.parts) next
+        (one_more d cache cache.parts) f
 
 few_object : (d : Draft) (key : Key) (kind : Option Kind) → Few d → Few (with_object d key kind)
 few_object d key None h = h
@@ -62,11 +71,24 @@ few_step d (line.Member member) h = search (rule_then, h) depth 16
 few_step d (line.Join moment member) h = search (rule_then, h) depth 16
 few_step d (line.Links moment s) h = search (rule_then, h) depth 16
 few_step d (line.Start moment words) h = few_start d moment words
-few_step d (line.Stop moment name) h = search (rule_then, any_then {A = List ℕ} {B = Draft}, any_then {A = ℕ} {B = Draft}, h) depth 16
+few_step d (line.Stop moment name) h = search (
+  rule_then,
+  any_then {A = List ℕ} {B = Draft},
+  any_then {A = ℕ} {B = Draft},
+  h,
+) depth 16
 few_step d (line.Session name node) h = search (rule_then, any_then {A = List ℕ} {B = Draft}, h) depth 16
 few_step d (line.Bare command) h = search (rule_then, h) depth 16
 few_step d (line.Keyed verb key) h =
-    search (rule_then, any_then {A = List ℕ} {B = Draft}, any_then {A = Key} {B = Draft}, any_then {A = Item} {B = Draft}, any_then {A = ℕ} {B = Draft}, few_object, h) depth 16
+    search (
+      rule_then,
+      any_then {A = List ℕ} {B = Draft},
+      any_then {A = Key} {B = Draft},
+      any_then {A = Item} {B = Draft},
+      any_then {A = ℕ} {B = Draft},
+      few_object,
+      h,
+    ) depth 16
 few_step d line.End h = search (rule_then, h) depth 16
 
 few_line : (d : Draft) (bytes : List ℕ) → Few d → Holds Few (line_taken d bytes)

@@ -33,15 +33,32 @@ pub cache_of-good : (w : What) (first is_data : Bool) (words : CacheWords) → G
 cache_of-good w first is_data words g = named words.name g
   where
     fits : (called : List ℕ) → is_name called ≡ true → cache_fits words ≡ true
-        → good_cache (record { name = called; parts = words.parts; backups = words.backups; near = words.near; first = first; «data» = is_data }) ≡ true
+        → good_cache (record {
+          name = called;
+          parts = words.parts;
+          backups = words.backups;
+          near = words.near;
+          first = first;
+          «data» = is_data;
+        }) ≡ true
     fits called n f =
         let outer = and_parts (is_within 1 1024 words.parts && nat_le words.backups 3) (nat_le words.near 10000) f in
         let inner = and_parts (is_within 1 1024 words.parts) (nat_le words.backups 3) outer.0 in
         rw (n, inner.0, inner.1, outer.1) refl
 
-    named : (o : Option (List ℕ)) → GoodName o → Holds (λ c. (good_cache c ≡ true) × (c.first ≡ first) × (c.«data» ≡ is_data)) (fit o what.Name >>= λ called. (rule (cache_fits words) (Limit w) >>= λ u. Ok (record { name = called; parts = words.parts; backups = words.backups; near = words.near; first = first; «data» = is_data })))
+    named : (o : Option (List ℕ)) → GoodName o → Holds (λ c. (good_cache c ≡ true) × (c.first ≡ first) × (c.«data» ≡ is_data))
+        (fit o what.Name >>= λ called. (rule (cache_fits words) (Limit w)
+        >>= λ u. Ok (record {
+          name = called;
+          parts = words.parts;
+          backups = words.backups;
+          near = words.near;
+          first = first;
+          «data» = is_data;
+        })))
     named None n = tt
-    named (Some called) n = rule_then (λ c. (good_cache c ≡ true) × (c.first ≡ first) × (c.«data» ≡ is_data)) (cache_fits words) (Limit w) _ (λ f. (fits called n f, refl, refl))
+    named (Some called) n = rule_then (λ c. (good_cache c ≡ true) × (c.first ≡ first) × (c.«data» ≡ is_data))
+        (cache_fits words) (Limit w) _ (λ f. (fits called n f, refl, refl))
 
 -- the places of lines
 
@@ -98,10 +115,12 @@ fit-set s setting.Backups n h f = record { parts = h.parts; backups = f; near = 
 fit-set s setting.Near n h f = record { parts = h.parts; backups = h.backups; near = f }
 
 -- a setting of format 1
-pub caches-setting : (d : Draft) (what : Setting) (n : ℕ) → CachesOf d.format d.settings d.caches d.partitions → (d.format == 2) ≡ false → setting_fits what n ≡ true
+pub caches-setting : (d : Draft) (what : Setting) (n : ℕ) → CachesOf d.format d.settings d.caches d.partitions →
+    (d.format == 2) ≡ false → setting_fits what n ≡ true
     → CachesOf d.format (set d.settings what n) (default_cache (set d.settings what n) ∷ []) d.partitions
 caches-setting d what n (inl h) g f = inr (inl (record { is = h.is; fit = fit-set d.settings what n h.fit f; one = refl }))
-caches-setting d what n (inr (inl h)) g f = inr (inl (record { is = h.is; fit = fit-set d.settings what n h.fit f; one = refl }))
+caches-setting d what n (inr (inl h)) g f =
+    inr (inl (record { is = h.is; fit = fit-set d.settings what n h.fit f; one = refl }))
 caches-setting d what n (inr (inr h)) g f = absurd (let e : (2 == 2) ≡ false = rw h.is at g in cc)
 
 -- the line of the format
@@ -111,7 +130,17 @@ caches-head d format h (inl one) = rw one (inr (inl (record { is = refl; fit = h
 caches-head d format h (inr two) = rw (two, h.zero) (inr (inr none_yet))
   where
     none_yet : SecondCaches 2 [] 0
-    none_yet = record { is = refl; each = refl; order = refl; kinds = refl; distinct = refl; few = lit≤ tt; sum = refl; most = lit≤ tt }
+    none_yet = record {
+      is = refl;
+      each = refl;
+      order = refl;
+      kinds = refl;
+      distinct = refl;
+      few = lit≤ tt;
+      sum = refl;
+      most =
+          lit≤ tt;
+    }
 
 -- one more cache
 pub record Room (d : Draft) (parts total : ℕ) : Type 0 where
@@ -126,7 +155,8 @@ room d parts =
     record { few = ltb-true _ _ both.0; sum = refl; most = leb-true _ _ both.1 })
     (λ e. tt)
 
-pub caches-pushed : (d : Draft) (c : Cache) (total : ℕ) → CachesOf d.format d.settings d.caches d.partitions → (d.format == 2) ≡ true → good_cache c ≡ true → is_kind c ≡ true
+pub caches-pushed : (d : Draft) (c : Cache) (total : ℕ) → CachesOf d.format d.settings d.caches d.partitions →
+    (d.format == 2) ≡ true → good_cache c ≡ true → is_kind c ≡ true
     → list_all (λ y. may_precede y c) d.caches ≡ true → Room d c.parts total → not (has_cache d.caches c.name) ≡ true
     → CachesOf d.format d.settings (d.caches ++ c ∷ []) total
 caches-pushed d c total (inl h) f g k p r n = absurd (let e : (1 == 2) ≡ true = rw h.is at f in cc)

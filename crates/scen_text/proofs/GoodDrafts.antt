@@ -49,7 +49,8 @@ use Rattle.scen_text.proofs.Holds.{Holds, then_holds, ok_then, rule_then, fit_th
 -- places
 
 -- at a later place nothing is known to be missing
-late : (p : Place) (caches : List Cache) (plan : List PlanStep) (sessions : List Session) → 9 ≤ rank p → Placed p caches plan sessions
+late : (p : Place) (caches : List Cache) (plan : List PlanStep) (sessions : List Session) → 9 ≤ rank p →
+    Placed p caches plan sessions
 late p caches plan sessions h = record {
   lines = λ e. absurd (omega (arith, leb-true (rank p) 5 e));
   firsts = λ e. absurd (omega (arith, leb-true (rank p) 7 e));
@@ -61,7 +62,8 @@ below : (n most : ℕ) → n ≤ most → nat_le n most ≡ true
 below n most h = le-leb n most h
 
 -- outside of a session, where the session that is read is none
-outside : (p : Place) (named : List NodeId) (caches : List Cache) (sessions : List Session) (s : Session) → in_script p ≡ false → s.commands ≡ [] → ScriptOf p named caches sessions s
+outside : (p : Place) (named : List NodeId) (caches : List Cache) (sessions : List Session) (s : Session) →
+    in_script p ≡ false → s.commands ≡ [] → ScriptOf p named caches sessions s
 outside p named caches sessions s e none = record {
   good = λ t. absurd (cc (e, t));
   new = λ t. absurd (cc (e, t));
@@ -81,14 +83,20 @@ no_commands d h r = h.script.none (rank_outside d.place r)
 
 -- the heads of texts
 
-heads : (format : ℕ) (cache : Cache) (p : Cache → Bool) → p cache ≡ true → list_all p (if format == 1 then cache ∷ [] else []) ≡ true
-heads format cache p h = cond_both (format == 1) (cache ∷ []) [] (λ cs. list_all p cs ≡ true) (λ e. and_from (p cache) true h refl) (λ e. refl)
+heads : (format : ℕ) (cache : Cache) (p : Cache → Bool) → p cache ≡ true → list_all p (if format == 1 then cache ∷ [] else [])
+    ≡ true
+heads format cache p h = cond_both (format == 1) (cache ∷ []) [] (λ cs. list_all p cs ≡ true)
+    (λ e. and_from (p cache) true h refl) (λ e. refl)
 
-unplanned : (named : List NodeId) (caches : List Cache) (plan : List PlanStep) → plan ≡ [] → list_all (λ c. c.first) caches ≡ true → PlanOf named caches plan
-unplanned named caches plan e h = let P : List PlanStep → Type 0 = PlanOf named caches in subst P (sym e) (no_plan named caches h)
+unplanned : (named : List NodeId) (caches : List Cache) (plan : List PlanStep) → plan ≡ [] →
+    list_all (λ c. c.first) caches ≡ true → PlanOf named caches plan
+unplanned named caches plan e h = let P : List PlanStep → Type 0 = PlanOf named caches in
+    subst P (sym e) (no_plan named caches h)
 
-unsaid : (named : List NodeId) (caches : List Cache) (sessions : List Session) → sessions ≡ [] → SessionsOf named caches sessions
-unsaid named caches sessions e = let P : List Session → Type 0 = SessionsOf named caches in subst P (sym e) (no_sessions named caches)
+unsaid : (named : List NodeId) (caches : List Cache) (sessions : List Session) → sessions ≡ [] →
+    SessionsOf named caches sessions
+unsaid named caches sessions e = let P : List Session → Type 0 = SessionsOf named caches in
+    subst P (sym e) (no_sessions named caches)
 
 head-kept : (d : Draft) (format : ℕ) → Kept d → (format ≡ 1) ⊎ (format ≡ 2) → Holds Kept (with_head d format)
 head-kept d format h g = rule_then Kept (is_start_place d.place) Syntax _ (λ s.
@@ -99,7 +107,12 @@ head-kept d format h g = rule_then Kept (is_start_place d.place) Syntax _ (λ s.
     record {
       unread = λ e. absurd (cc);
       caches = caches-head d format (h.unread s) g;
-      placed = record { lines = λ e. heads format (default_cache d.settings) has_cache_line refl; firsts = λ e. firsts; no_plan = λ e. plan; no_session = λ e. sessions };
+      placed = record {
+        lines = λ e. heads format (default_cache d.settings) has_cache_line refl;
+        firsts = λ e. firsts;
+        no_plan = λ e. plan;
+        no_session = λ e. sessions;
+      };
       nodes = h.nodes;
       plan = unplanned d.named _ d.plan plan firsts;
       sessions = unsaid d.named _ d.sessions sessions;
@@ -107,13 +120,15 @@ head-kept d format h g = rule_then Kept (is_start_place d.place) Syntax _ (λ s.
       objects = h.objects;
     })
 
-setting_place : (s : Setting) → (rank (place_of_setting s) ≤ 4) × (in_script (place_of_setting s) ≡ false) × (is_start_place (place_of_setting s) ≡ false)
+setting_place : (s : Setting) → (rank (place_of_setting s) ≤ 4) × (in_script (place_of_setting s) ≡ false)
+    × (is_start_place (place_of_setting s) ≡ false)
 setting_place setting.Parts = (lit≤ tt, refl, refl)
 setting_place setting.Backups = (lit≤ tt, refl, refl)
 setting_place setting.Near = (lit≤ tt, refl, refl)
 
 setting-kept : (d : Draft) (s : Setting) (n : ℕ) → Kept d → (d.format == 2) ≡ false → Holds Kept (with_setting d s n)
-setting-kept d s n h g = rule_then Kept (stands_once d.place (place_of_setting s)) Syntax _ (λ st. rule_then Kept (setting_fits s n) (Limit (setting_what s)) _ (λ fits.
+setting-kept d s n h g = rule_then Kept (stands_once d.place (place_of_setting s)) Syntax _
+    (λ st. rule_then Kept (setting_fits s n) (Limit (setting_what s)) _ (λ fits.
     let at = setting_place s in
     let low : rank d.place < rank (place_of_setting s) = once_below d.place (place_of_setting s) st in
     let most = at.0 in
@@ -138,21 +153,25 @@ precede_line c (x ∷ xs) h =
     let parts = and_parts (has_cache_line x) (list_all has_cache_line xs) h in
     and_from (may_precede x c) (list_all (λ y. may_precede y c) xs) (rw parts.0 refl) (precede_line c xs parts.1)
 
-precede_data : (c : Cache) (xs : List Cache) → c.«data» ≡ true → c.first ≡ true → list_all (λ y. y.first) xs ≡ true → list_all (λ y. may_precede y c) xs ≡ true
+precede_data : (c : Cache) (xs : List Cache) → c.«data» ≡ true → c.first ≡ true → list_all (λ y. y.first) xs ≡ true →
+    list_all (λ y. may_precede y c) xs ≡ true
 precede_data c [] d f h = refl
 precede_data c (x ∷ xs) d f h =
     let parts = and_parts x.first (list_all (λ y. y.first) xs) h in
-    and_from (may_precede x c) (list_all (λ y. may_precede y c) xs) (rw (parts.0, d, f) (either x.«data»)) (precede_data c xs d f parts.1)
+    and_from (may_precede x c) (list_all (λ y. may_precede y c) xs) (rw (parts.0, d, f) (either x.«data»))
+    (precede_data c xs d f parts.1)
   where
     either : (b : Bool) → ((((true && not b) || ((true && b) && true)) || ((false && not b) && false)) ≡ true)
     either true = refl
     either false = refl
 
-precede_started : (c : Cache) (xs : List Cache) → c.«data» ≡ false → c.first ≡ false → list_all is_kind xs ≡ true → list_all (λ y. may_precede y c) xs ≡ true
+precede_started : (c : Cache) (xs : List Cache) → c.«data» ≡ false → c.first ≡ false → list_all is_kind xs ≡ true →
+    list_all (λ y. may_precede y c) xs ≡ true
 precede_started c [] d f h = refl
 precede_started c (x ∷ xs) d f h =
     let parts = and_parts (is_kind x) (list_all is_kind xs) h in
-    and_from (may_precede x c) (list_all (λ y. may_precede y c) xs) (rw (d, f) (either x.first x.«data» parts.0)) (precede_started c xs d f parts.1)
+    and_from (may_precede x c) (list_all (λ y. may_precede y c) xs) (rw (d, f) (either x.first x.«data» parts.0))
+    (precede_started c xs d f parts.1)
   where
     either : (a b : Bool) → (a || not b) ≡ true → ((((a && not b) || ((a && b) && true)) || ((not a && not b) && true)) ≡ true)
     either true true e = refl
@@ -160,10 +179,13 @@ precede_started c (x ∷ xs) d f h =
     either false true e = cc
     either false false e = refl
 
-line_kept : (d : Draft) (words : CacheWords) → Kept d → (d.format == 2) ≡ true → GoodName words.name → Holds Kept (with_cache d false words)
+line_kept : (d : Draft) (words : CacheWords) → Kept d → (d.format == 2) ≡ true → GoodName words.name →
+    Holds Kept (with_cache d false words)
 line_kept d words h f g = rule_then Kept (may_follow d.place place.Caches) Syntax _ (λ st.
-    then_holds Kept (λ c. (good_cache c ≡ true) × (c.first ≡ true) × (c.«data» ≡ false)) (cache_of what.Cache true false words) _ (cache_of-good what.Cache true false words g) (λ c k.
-    then_holds Kept (Room d c.parts) (total_with d c.parts) _ (room d c.parts) (λ total r. rule_then Kept (not (has_cache d.caches c.name)) _ _ (λ new.
+    then_holds Kept (λ c. (good_cache c ≡ true) × (c.first ≡ true) × (c.«data» ≡ false))
+    (cache_of what.Cache true false words) _ (cache_of-good what.Cache true false words g) (λ c k.
+    then_holds Kept (Room d c.parts) (total_with d c.parts) _ (room d c.parts)
+    (λ total r. rule_then Kept (not (has_cache d.caches c.name)) _ _ (λ new.
     let low : rank d.place ≤ 5 = stands_below d.place place.Caches st in
     let plan : d.plan ≡ [] = h.placed.no_plan (below _ _ (omega arith)) in
     let sessions : d.sessions ≡ [] = h.placed.no_session (below _ _ (omega arith)) in
@@ -172,7 +194,12 @@ line_kept d words h f g = rule_then Kept (may_follow d.place place.Caches) Synta
     record {
       unread = λ e. absurd (cc);
       caches = caches-pushed d c total h.caches f k.0 (rw k.1 refl) (precede_line c d.caches lines) r new;
-      placed = record { lines = λ e. pushed_all has_cache_line d.caches c lines (rw (k.1, k.2) refl); firsts = λ e. firsts; no_plan = λ e. plan; no_session = λ e. sessions };
+      placed = record {
+        lines = λ e. pushed_all has_cache_line d.caches c lines (rw (k.1, k.2) refl);
+        firsts = λ e. firsts;
+        no_plan = λ e. plan;
+        no_session = λ e. sessions;
+      };
       nodes = h.nodes;
       plan = unplanned d.named _ d.plan plan firsts;
       sessions = unsaid d.named _ d.sessions sessions;
@@ -180,10 +207,13 @@ line_kept d words h f g = rule_then Kept (may_follow d.place place.Caches) Synta
       objects = h.objects;
     }))))
 
-data_kept : (d : Draft) (words : CacheWords) → Kept d → (d.format == 2) ≡ true → GoodName words.name → Holds Kept (with_cache d true words)
+data_kept : (d : Draft) (words : CacheWords) → Kept d → (d.format == 2) ≡ true → GoodName words.name →
+    Holds Kept (with_cache d true words)
 data_kept d words h f g = rule_then Kept (may_follow d.place place.Data) Syntax _ (λ st.
-    then_holds Kept (λ c. (good_cache c ≡ true) × (c.first ≡ true) × (c.«data» ≡ true)) (cache_of what.Data true true words) _ (cache_of-good what.Data true true words g) (λ c k.
-    then_holds Kept (Room d c.parts) (total_with d c.parts) _ (room d c.parts) (λ total r. rule_then Kept (not (has_cache d.caches c.name)) _ _ (λ new.
+    then_holds Kept (λ c. (good_cache c ≡ true) × (c.first ≡ true) × (c.«data» ≡ true)) (cache_of what.Data true true words) _
+    (cache_of-good what.Data true true words g) (λ c k.
+    then_holds Kept (Room d c.parts) (total_with d c.parts) _ (room d c.parts)
+    (λ total r. rule_then Kept (not (has_cache d.caches c.name)) _ _ (λ new.
     let low : rank d.place ≤ 6 = stands_below d.place place.Data st in
     let plan : d.plan ≡ [] = h.placed.no_plan (below _ _ (omega arith)) in
     let sessions : d.sessions ≡ [] = h.placed.no_session (below _ _ (omega arith)) in
@@ -200,15 +230,18 @@ data_kept d words h f g = rule_then Kept (may_follow d.place place.Data) Syntax 
       objects = h.objects;
     }))))
 
-cache-kept : (d : Draft) (is_data : Bool) (words : CacheWords) → Kept d → (d.format == 2) ≡ true → GoodName words.name → Holds Kept (with_cache d is_data words)
+cache-kept : (d : Draft) (is_data : Bool) (words : CacheWords) → Kept d → (d.format == 2) ≡ true → GoodName words.name →
+    Holds Kept (with_cache d is_data words)
 cache-kept d false words h f g = line_kept d words h f g
 cache-kept d true words h f g = data_kept d words h f g
 
 -- nodes
 
 member-kept : (d : Draft) (m : Member) → Kept d → Holds Kept (draft_with_member d m)
-member-kept d m h = rule_then Kept (may_follow d.place place.Nodes) Syntax _ (λ st. rule_then Kept (is_within 1 99 m.node.0) (Limit (member_what m.server)) _ (λ within.
-    rule_then Kept (nat_lt (length d.members) 16) (Limit what.Nodes) _ (λ few. rule_then Kept (not (has_member d.members m.node)) _ _ (λ new.
+member-kept d m h = rule_then Kept (may_follow d.place place.Nodes) Syntax _ (λ st. rule_then Kept (is_within 1 99 m.node.0)
+    (Limit (member_what m.server)) _ (λ within.
+    rule_then Kept (nat_lt (length d.members) 16) (Limit what.Nodes) _
+    (λ few. rule_then Kept (not (has_member d.members m.node)) _ _ (λ new.
     let low : rank d.place ≤ 7 = stands_below d.place place.Nodes st in
     let room : length d.members < 16 = ltb-true _ _ few in
     let plan : d.plan ≡ [] = h.placed.no_plan (below _ _ low) in
@@ -216,7 +249,12 @@ member-kept d m h = rule_then Kept (may_follow d.place place.Nodes) Syntax _ (λ
     record {
       unread = λ e. absurd (cc);
       caches = h.caches;
-      placed = record { lines = λ e. absurd (cc); firsts = λ e. h.placed.firsts (below _ _ low); no_plan = λ e. plan; no_session = λ e. sessions };
+      placed = record {
+        lines = λ e. absurd (cc);
+        firsts = λ e. h.placed.firsts (below _ _ low);
+        no_plan = λ e. plan;
+        no_session = λ e. sessions;
+      };
       nodes = record {
         whole = in_lines d.nodes d.members d.plan m h.nodes.whole plan;
         within = pushed_all (λ member. is_within 1 99 member.node.0) d.members m h.nodes.within within;
@@ -229,7 +267,8 @@ member-kept d m h = rule_then Kept (may_follow d.place place.Nodes) Syntax _ (λ
       objects = h.objects;
     }))))
   where
-    in_lines : (nodes members : List Member) (plan : List PlanStep) (m : Member) → members ≡ nodes ++ filter_map (λ p. joining p.step) plan → plan ≡ []
+    in_lines : (nodes members : List Member) (plan : List PlanStep) (m : Member) →
+        members ≡ nodes ++ filter_map (λ p. joining p.step) plan → plan ≡ []
         → members ++ m ∷ [] ≡ (nodes ++ m ∷ []) ++ filter_map (λ p. joining p.step) plan
     in_lines nodes members plan m e none =
         let e2 : members ≡ nodes ++ filter_map (λ (p : PlanStep). joining p.step) [] = rw none at e in
@@ -238,34 +277,50 @@ member-kept d m h = rule_then Kept (may_follow d.place place.Nodes) Syntax _ (λ
 
 -- the plan
 
-members-same : (nodes members : List Member) (plan : List PlanStep) (moment : ℕ) (s : Step) → joining s ≡ None → NodesOf nodes members plan → NodesOf nodes members (plan ++ record { moment = moment; step = s } ∷ [])
+members-same : (nodes members : List Member) (plan : List PlanStep) (moment : ℕ) (s : Step) → joining s ≡ None →
+    NodesOf nodes members plan → NodesOf nodes members (plan ++ record { moment = moment; step = s } ∷ [])
 members-same nodes members plan moment s none h =
     let x : PlanStep = record { moment = moment; step = s } in
-    let same : filter_map (λ (p : PlanStep). joining p.step) (plan ++ x ∷ []) ≡ filter_map (λ (p : PlanStep). joining p.step) plan =
-    filter_map-append (λ (p : PlanStep). joining p.step) plan (x ∷ []) ∙ (rw none (append-nil (filter_map (λ (p : PlanStep). joining p.step) plan))) in
+    let same : filter_map (λ (p : PlanStep). joining p.step) (plan ++ x ∷ []) ≡ filter_map (λ (p : PlanStep). joining p.step)
+    plan =
+    filter_map-append (λ (p : PlanStep). joining p.step) plan (x ∷ [])
+    ∙ (rw none (append-nil (filter_map (λ (p : PlanStep). joining p.step) plan))) in
     record { whole = rw same h.whole; within = h.within; distinct = h.distinct; few = h.few }
 
-members-joined : (nodes members : List Member) (plan : List PlanStep) (moment : ℕ) (m : Member) → NodesOf nodes members plan → is_within 1 99 m.node.0 ≡ true → length members < 16
-    → has_member members m.node ≡ false → NodesOf nodes (members ++ m ∷ []) (plan ++ record { moment = moment; step = step.Join m } ∷ [])
+members-joined : (nodes members : List Member) (plan : List PlanStep) (moment : ℕ) (m : Member) → NodesOf nodes members plan →
+    is_within 1 99 m.node.0 ≡ true → length members < 16
+    → has_member members m.node ≡ false →
+    NodesOf nodes (members ++ m ∷ []) (plan ++ record { moment = moment; step = step.Join m } ∷ [])
 members-joined nodes members plan moment m h within room new =
     let x : PlanStep = record { moment = moment; step = step.Join m } in
-    let more : filter_map (λ (p : PlanStep). joining p.step) (plan ++ x ∷ []) ≡ filter_map (λ (p : PlanStep). joining p.step) plan ++ m ∷ [] =
+    let more : filter_map (λ (p : PlanStep). joining p.step) (plan ++ x ∷ []) ≡ filter_map (λ (p : PlanStep). joining p.step)
+    plan ++ m ∷ [] =
     filter_map-append (λ (p : PlanStep). joining p.step) plan (x ∷ []) in
     record {
-      whole = rw more (ap (λ (ms : List Member). ms ++ m ∷ []) h.whole ∙ append_assoc nodes (filter_map (λ (p : PlanStep). joining p.step) plan) (m ∷ []));
+      whole = rw more (ap (λ (ms : List Member). ms ++ m ∷ []) h.whole
+          ∙ append_assoc nodes (filter_map (λ (p : PlanStep). joining p.step) plan) (m ∷ []));
       within = pushed_all (λ member. is_within 1 99 member.node.0) members m h.within within;
       distinct = pushed_distinct same_member_node members m h.distinct new;
       few = omega (arith, length-append members (m ∷ []));
     }
 
 -- behind a step, in the plan
-in_plan : (d : Draft) (caches : List Cache) (plan : List PlanStep) → Kept d → rank d.place ≤ 8 → Placed place.Plan caches plan d.sessions
-in_plan d caches plan h low = record { lines = λ e. absurd (cc); firsts = λ e. absurd (cc); no_plan = λ e. absurd (cc); no_session = λ e. h.placed.no_session (below _ _ low) }
+in_plan : (d : Draft) (caches : List Cache) (plan : List PlanStep) → Kept d → rank d.place ≤ 8 →
+    Placed place.Plan caches plan d.sessions
+in_plan d caches plan h low = record {
+  lines = λ e. absurd (cc);
+  firsts = λ e. absurd (cc);
+  no_plan = λ e. absurd (cc);
+  no_session = λ e. h.placed.no_session (below _ _ low);
+}
 
 join-kept : (d : Draft) (moment : ℕ) (m : Member) → Kept d → Holds Kept (with_join d moment m)
-join-kept d moment m h = rule_then Kept (may_follow d.place place.Plan) Syntax _ (λ st. rule_then Kept (is_within 1 1000000 moment) (Limit what.Moment) _ (λ at.
-    rule_then Kept (is_within 1 99 m.node.0) (Limit what.Plan) _ (λ within. rule_then Kept (rises d.plan moment) (Limit what.Moment) _ (λ up.
-    rule_then Kept (nat_lt (length d.members) 16) (Limit what.Nodes) _ (λ few. rule_then Kept (nat_lt (length d.plan) 64) (Limit what.Steps) _ (λ steps.
+join-kept d moment m h = rule_then Kept (may_follow d.place place.Plan) Syntax _
+    (λ st. rule_then Kept (is_within 1 1000000 moment) (Limit what.Moment) _ (λ at.
+    rule_then Kept (is_within 1 99 m.node.0) (Limit what.Plan) _ (λ within. rule_then Kept (rises d.plan moment)
+    (Limit what.Moment) _ (λ up.
+    rule_then Kept (nat_lt (length d.members) 16) (Limit what.Nodes) _ (λ few. rule_then Kept (nat_lt (length d.plan) 64)
+    (Limit what.Steps) _ (λ steps.
     rule_then Kept (not (has_member d.members m.node)) _ _ (λ new.
     let low : rank d.place ≤ 8 = stands_below d.place place.Plan st in
     record {
@@ -296,9 +351,12 @@ link_fits caches before (step.Start n) h = cc
 link_fits caches before (step.Stop n) h = cc
 
 links-kept : (d : Draft) (moment : ℕ) (s : Step) → Kept d → is_link s ≡ true → Holds Kept (with_links d moment s)
-links-kept d moment s h g = rule_then Kept (may_follow d.place place.Plan) Syntax _ (λ st. rule_then Kept (is_within 1 1000000 moment) (Limit what.Moment) _ (λ at.
-    rule_then Kept (nodes_fit s) (Limit what.Plan) _ (λ within. rule_then Kept (rises d.plan moment) (Limit what.Moment) _ (λ up.
-    rule_then Kept (nat_lt (length d.plan) 64) (Limit what.Steps) _ (λ steps. rule_then Kept (nodes_named d.named s) _ _ (λ there.
+links-kept d moment s h g = rule_then Kept (may_follow d.place place.Plan) Syntax _
+    (λ st. rule_then Kept (is_within 1 1000000 moment) (Limit what.Moment) _ (λ at.
+    rule_then Kept (nodes_fit s) (Limit what.Plan) _ (λ within. rule_then Kept (rises d.plan moment) (Limit what.Moment) _
+    (λ up.
+    rule_then Kept (nat_lt (length d.plan) 64) (Limit what.Steps) _ (λ steps. rule_then Kept (nodes_named d.named s) _ _
+    (λ there.
     let low : rank d.place ≤ 8 = stands_below d.place place.Plan st in
     let none = link_none s g in
     record {
@@ -306,27 +364,37 @@ links-kept d moment s h g = rule_then Kept (may_follow d.place place.Plan) Synta
       caches = h.caches;
       placed = in_plan d _ _ h low;
       nodes = members-same d.nodes d.members d.plan moment s none.0 h.nodes;
-      plan = plan-pushed d.named d.caches d.plan moment s h.plan (ltb-true _ _ steps) at up there (link_fits d.caches (steps_of d.plan) s g) none.1;
+      plan = plan-pushed d.named d.caches d.plan moment s h.plan (ltb-true _ _ steps) at up there
+          (link_fits d.caches (steps_of d.plan) s g) none.1;
       sessions = h.sessions;
       script = outside place.Plan d.named _ d.sessions d.session refl (no_commands d h (omega arith));
       objects = h.objects;
     }))))))
 
-kinds_of : (d : Draft) → CachesOf d.format d.settings d.caches d.partitions → (d.format == 2) ≡ true → list_all is_kind d.caches ≡ true
+kinds_of : (d : Draft) → CachesOf d.format d.settings d.caches d.partitions → (d.format == 2) ≡ true →
+    list_all is_kind d.caches ≡ true
 kinds_of d (inl h) f = absurd (let e : (1 == 2) ≡ true = rw h.is at f in cc)
 kinds_of d (inr (inl h)) f = absurd (let e : (1 == 2) ≡ true = rw h.is at f in cc)
 kinds_of d (inr (inr h)) f = h.kinds
 
-start-kept : (d : Draft) (moment : ℕ) (words : CacheWords) → Kept d → (d.format == 2) ≡ true → GoodName words.name → Holds Kept (with_start d moment words)
-start-kept d moment words h f g = rule_then Kept (may_follow d.place place.Plan && not (names_data_here d.caches words.name)) Syntax _ (λ stands_so. rule_then Kept (is_within 1 1000000 moment) (Limit what.Moment) _ (λ at.
-    then_holds Kept (λ c. (good_cache c ≡ true) × (c.first ≡ false) × (c.«data» ≡ false)) (cache_of what.Plan false false words) _ (cache_of-good what.Plan false false words g) (λ c k.
-    rule_then Kept (rises d.plan moment) (Limit what.Moment) _ (λ up. rule_then Kept (nat_lt (length d.plan) 64) (Limit what.Steps) _ (λ steps.
-    then_holds Kept (Room d c.parts) (total_with d c.parts) _ (room d c.parts) (λ total r. rule_then Kept (not (has_cache d.caches c.name)) _ _ (λ new.
-    let low : rank d.place ≤ 8 = stands_below d.place place.Plan (and_parts (may_follow d.place place.Plan) (not (names_data_here d.caches words.name)) stands_so).0 in
+start-kept : (d : Draft) (moment : ℕ) (words : CacheWords) → Kept d → (d.format == 2) ≡ true → GoodName words.name →
+    Holds Kept (with_start d moment words)
+start-kept d moment words h f g = rule_then Kept (may_follow d.place place.Plan && not (names_data_here d.caches words.name))
+    Syntax _ (λ stands_so. rule_then Kept (is_within 1 1000000 moment) (Limit what.Moment) _ (λ at.
+    then_holds Kept (λ c. (good_cache c ≡ true) × (c.first ≡ false) × (c.«data» ≡ false))
+    (cache_of what.Plan false false words) _ (cache_of-good what.Plan false false words g) (λ c k.
+    rule_then Kept (rises d.plan moment) (Limit what.Moment) _ (λ up. rule_then Kept (nat_lt (length d.plan) 64)
+    (Limit what.Steps) _ (λ steps.
+    then_holds Kept (Room d c.parts) (total_with d c.parts) _ (room d c.parts)
+    (λ total r. rule_then Kept (not (has_cache d.caches c.name)) _ _ (λ new.
+    let low : rank d.place ≤ 8 =
+    stands_below d.place place.Plan (and_parts (may_follow d.place place.Plan) (not (names_data_here d.caches words.name))
+    stands_so).0 in
     let sessions : d.sessions ≡ [] = h.placed.no_session (below _ _ low) in
     record {
       unread = λ e. absurd (cc);
-      caches = caches-pushed d c total h.caches f k.0 (rw (k.1, k.2) refl) (precede_started c d.caches k.2 k.1 (kinds_of d h.caches f)) r new;
+      caches = caches-pushed d c total h.caches f k.0 (rw (k.1, k.2) refl)
+          (precede_started c d.caches k.2 k.1 (kinds_of d h.caches f)) r new;
       placed = in_plan d _ _ h low;
       nodes = members-same d.nodes d.members d.plan moment (step.Start (length d.caches)) refl h.nodes;
       plan = plan-started d.named d.caches c d.plan moment h.plan (ltb-true _ _ steps) at up k.1 k.2;
@@ -340,11 +408,15 @@ known_is (Some m) n e = cc
 known_is None n e = cc
 
 stop-kept : (d : Draft) (moment : ℕ) (name : Option (List ℕ)) → Kept d → Holds Kept (with_stop d moment name)
-stop-kept d moment name h = rule_then Kept (may_follow d.place place.Plan && not (names_data_here d.caches name) && not (names_first d.caches name)) Syntax _ (λ stands_so.
+stop-kept d moment name h = rule_then Kept (may_follow d.place place.Plan && not (names_data_here d.caches name)
+    && not (names_first d.caches name)) Syntax _ (λ stands_so.
     rule_then Kept (is_within 1 1000000 moment) (Limit what.Moment) _ (λ at. fit_then Kept name what.Name _ (λ called is.
-    rule_then Kept (rises d.plan moment) (Limit what.Moment) _ (λ up. rule_then Kept (nat_lt (length d.plan) 64) (Limit what.Steps) _ (λ steps.
-    ok_then Kept (known_cache (place_named d.caches (Some called))) _ (λ n found. rule_then Kept (not (is_stopped d.plan n)) _ _ (λ new.
-    let outer = and_parts (may_follow d.place place.Plan && not (names_data_here d.caches name)) (not (names_first d.caches name)) stands_so in
+    rule_then Kept (rises d.plan moment) (Limit what.Moment) _ (λ up. rule_then Kept (nat_lt (length d.plan) 64)
+    (Limit what.Steps) _ (λ steps.
+    ok_then Kept (known_cache (place_named d.caches (Some called))) _
+    (λ n found. rule_then Kept (not (is_stopped d.plan n)) _ _ (λ new.
+    let outer = and_parts (may_follow d.place place.Plan && not (names_data_here d.caches name))
+    (not (names_first d.caches name)) stands_so in
     let inner = and_parts (may_follow d.place place.Plan) (not (names_data_here d.caches name)) outer.0 in
     let low : rank d.place ≤ 8 = stands_below d.place place.Plan inner.0 in
     let plain : names_data_here d.caches (Some called) ≡ false = rw is at (not-true _ inner.1) in
@@ -364,8 +436,10 @@ stop-kept d moment name h = rule_then Kept (may_follow d.place place.Plan && not
 -- sessions
 
 session-kept : (d : Draft) (name : Option (List ℕ)) (n : NodeId) → Kept d → GoodName name → Holds Kept (with_session d name n)
-session-kept d name n h g = rule_then Kept (may_follow d.place place.Sessions) Syntax _ (λ st. fit_then Kept name what.Name _ (λ called is.
-    rule_then Kept (is_within 1 99 n.0) (Limit what.Session) _ (λ within. rule_then Kept (nat_lt (length d.sessions) 64) (Limit what.Sessions) _ (λ few.
+session-kept d name n h g = rule_then Kept (may_follow d.place place.Sessions) Syntax _
+    (λ st. fit_then Kept name what.Name _ (λ called is.
+    rule_then Kept (is_within 1 99 n.0) (Limit what.Session) _ (λ within. rule_then Kept (nat_lt (length d.sessions) 64)
+    (Limit what.Sessions) _ (λ few.
     rule_then Kept (is_named d.named n) _ _ (λ there. rule_then Kept (not (has_session d.sessions called)) _ _ (λ new.
     let low : rank d.place ≤ 9 = stands_below d.place place.Sessions st in
     let named : is_name called ≡ true = rw is at g in
@@ -389,12 +463,15 @@ session-kept d name n h g = rule_then Kept (may_follow d.place place.Sessions) S
       objects = record { agree = rw same h.objects.agree; kept = rw same h.objects.kept };
     }))))))
   where
-    emptied : (sessions : List Session) (s now : Session) → s.commands ≡ [] → objects_in sessions (record now { commands = [] }) ≡ objects_in sessions s
+    emptied : (sessions : List Session) (s now : Session) → s.commands ≡ [] →
+        objects_in sessions (record now { commands = [] }) ≡ objects_in sessions s
     emptied sessions s now e = rw e refl
 
 -- a command in a session
-item-kept : (d : Draft) (x : Item) (objects : List (Key × Kind)) → Kept d → in_script d.place ≡ true → has_room d ≡ true → good_item d.caches x ≡ true
-    → (is_plain x || not (is_block d.place)) ≡ true → ObjectsOf objects d.sessions (record d.session { commands = d.session.commands ++ x ∷ [] })
+item-kept : (d : Draft) (x : Item) (objects : List (Key × Kind)) → Kept d → in_script d.place ≡ true → has_room d ≡ true →
+    good_item d.caches x ≡ true
+    → (is_plain x || not (is_block d.place)) ≡ true →
+    ObjectsOf objects d.sessions (record d.session { commands = d.session.commands ++ x ∷ [] })
     → Kept (with_item (record d { objects = objects }) x)
 item-kept d x objects h inside room g p o =
     let after = script_after d.place x inside in
@@ -418,12 +495,15 @@ item-kept d x objects h inside room g p o =
     }
 
 bare-kept : (d : Draft) (c : Command) → Kept d → is_bare c ≡ true → Holds Kept (with_bare d c)
-bare-kept d c h b = rule_then Kept (in_script d.place) Syntax _ (λ inside. rule_then Kept (bare_fits c) (Limit (bare_what c)) _ (λ fits. rule_then Kept (has_room d) _ _ (λ room.
-    item-kept d (item.Plain c) d.objects h inside room (bare-good d.caches c b fits) refl (objects-plain d.objects d.sessions d.session (item.Plain c) h.objects refl))))
+bare-kept d c h b = rule_then Kept (in_script d.place) Syntax _
+    (λ inside. rule_then Kept (bare_fits c) (Limit (bare_what c)) _ (λ fits. rule_then Kept (has_room d) _ _ (λ room.
+    item-kept d (item.Plain c) d.objects h inside room (bare-good d.caches c b fits) refl
+    (objects-plain d.objects d.sessions d.session (item.Plain c) h.objects refl))))
 
 end-kept : (d : Draft) → Kept d → Holds Kept (with_end d)
 end-kept d h = rule_then Kept (in_script d.place) Syntax _ (λ inside.
-    let same : objects_in (d.sessions ++ d.session ∷ []) no_session ≡ objects_in d.sessions d.session = ended d.sessions d.session in
+    let same : objects_in (d.sessions ++ d.session ∷ []) no_session ≡ objects_in d.sessions d.session =
+    ended d.sessions d.session in
     record {
       unread = λ e. absurd (cc);
       caches = h.caches;
@@ -443,12 +523,14 @@ end-kept d h = rule_then Kept (in_script d.place) Syntax _ (λ inside.
     ended sessions s =
         let commands : List Item = flat_map (λ (whole : Session). whole.commands) sessions in
         let all : flat_map (λ (whole : Session). whole.commands) (sessions ++ s ∷ []) ++ [] ≡ commands ++ s.commands =
-        append-nil (flat_map (λ (whole : Session). whole.commands) (sessions ++ s ∷ [])) ∙ flat_map-append (λ (whole : Session). whole.commands) sessions (s ∷ [])
+        append-nil (flat_map (λ (whole : Session). whole.commands) (sessions ++ s ∷ []))
+        ∙ flat_map-append (λ (whole : Session). whole.commands) sessions (s ∷ [])
         ∙ ap (λ (more : List Item). commands ++ more) (append-nil s.commands) in
         ap (filter_map object_of) all
 
 -- a key of a plain cache
-plain-key : (caches : List Cache) (name : List ℕ) (n : ℕ) (text : Key) → cache_place caches name ≡ Some n → names_data_here caches (Some name) ≡ false
+plain-key : (caches : List Cache) (name : List ℕ) (n : ℕ) (text : Key) → cache_place caches name ≡ Some n →
+    names_data_here caches (Some name) ≡ false
     → is_text is_key_byte 32 text.text ≡ true → good_key caches (key_in_cache n text) ≡ true
 plain-key caches name n text e plain t =
     let at = cache_at caches name n e in
@@ -463,7 +545,8 @@ plain-key caches name n text e plain t =
     left_of true false t h = cc
 
 -- an object of a data cache
-data-key : (caches : List Cache) (name : List ℕ) (n : ℕ) (text : Key) → cache_place caches name ≡ Some n → names_plain_here caches (Some name) ≡ false
+data-key : (caches : List Cache) (name : List ℕ) (n : ℕ) (text : Key) → cache_place caches name ≡ Some n →
+    names_plain_here caches (Some name) ≡ false
     → is_name text.text ≡ true → good_object caches (key_in_cache n text) ≡ true
 data-key caches name n text e plain t =
     let at = cache_at caches name n e in
@@ -514,47 +597,64 @@ record Stands (d : Draft) (kd : Option Kind) (n : ℕ) (text : Key) : Type 0 whe
   agreed : If (λ k. is_other d.objects (key_in_cache n text) k ≡ false) kd
 
 stands-plain : (d : Draft) (name : List ℕ) (n : ℕ) (text : Key) → cache_place d.caches name ≡ Some n
-    → (in_script d.place && not (names_data_here d.caches (Some name))) ≡ true → is_text is_key_byte 32 text.text ≡ true → Stands d None n text
+    → (in_script d.place && not (names_data_here d.caches (Some name))) ≡ true → is_text is_key_byte 32 text.text ≡ true →
+    Stands d None n text
 stands-plain d name n text e s t =
     let parts = and_parts (in_script d.place) (not (names_data_here d.caches (Some name))) s in
     record { inside = parts.0; good = plain-key d.caches name n text e (not-true _ parts.1) t; free = refl; agreed = tt }
 
 stands-data : (d : Draft) (name : List ℕ) (n : ℕ) (text : Key) (kd : Kind) → cache_place d.caches name ≡ Some n
-    → (is_outside d.place && not (names_plain_here d.caches (Some name)) && not (is_other d.objects (key_in_cache n text) kd)) ≡ true → is_name text.text ≡ true → Stands d (Some kd) n text
+    → (is_outside d.place && not (names_plain_here d.caches (Some name)) && not (is_other d.objects (key_in_cache n text) kd))
+    ≡ true → is_name text.text ≡ true → Stands d (Some kd) n text
 stands-data d name n text kd e s t =
-    let outer = and_parts (is_outside d.place && not (names_plain_here d.caches (Some name))) (not (is_other d.objects (key_in_cache n text) kd)) s in
+    let outer = and_parts (is_outside d.place && not (names_plain_here d.caches (Some name)))
+    (not (is_other d.objects (key_in_cache n text) kd)) s in
     let inner = and_parts (is_outside d.place) (not (names_plain_here d.caches (Some name))) outer.0 in
     let out = outside_script d.place inner.0 in
     let closed = out.1 in
-    record { inside = out.0; good = data-key d.caches name n text e (not-true _ inner.1) t; free = rw closed refl; agreed = not-true _ outer.1 }
+    record {
+      inside = out.0;
+      good = data-key d.caches name n text e (not-true _ inner.1) t;
+      free = rw closed refl;
+      agreed =
+          not-true _ outer.1;
+    }
 
-stands_of : (d : Draft) (kd : Option Kind) (key : KeyWords) (name : List ℕ) (n : ℕ) (text : Key) → key.cache ≡ Some name → key.key ≡ Some text → cache_place d.caches name ≡ Some n
+stands_of : (d : Draft) (kd : Option Kind) (key : KeyWords) (name : List ℕ) (n : ℕ) (text : Key) → key.cache ≡ Some name →
+    key.key ≡ Some text → cache_place d.caches name ≡ Some n
     → verb_stands d kd (place_of_key d.caches key) key ≡ true → KeyFor kd key.key → Stands d kd n text
 stands_of d None key name n text cache is e s t =
     stands-plain d name n text e (rw cache at s) (let g : GoodText (Some text) = rw is at t in g)
 stands_of d (Some kd) key name n text cache is e s t =
     stands-data d name n text kd e (rw (cache, is, e) at s) (let g : GoodObject (Some text) = rw is at t in g)
 
-pushed_key : (d : Draft) (kd : Option Kind) (n : ℕ) (text : Key) (x : Item) → Kept d → Stands d kd n text → Made d.caches (key_in_cache n text) kd x → has_room d ≡ true
+pushed_key : (d : Draft) (kd : Option Kind) (n : ℕ) (text : Key) (x : Item) → Kept d → Stands d kd n text →
+    Made d.caches (key_in_cache n text) kd x → has_room d ≡ true
     → Kept (with_item (with_object d (key_in_cache n text) kd) x)
 pushed_key d None n text x h s m room =
-    item-kept d x d.objects h s.inside room m.good (rw m.plain refl) (objects-plain d.objects d.sessions d.session x h.objects m.object)
+    item-kept d x d.objects h s.inside room m.good (rw m.plain refl)
+    (objects-plain d.objects d.sessions d.session x h.objects m.object)
 pushed_key d (Some kd) n text x h s m room =
     let free : (is_plain x || not (is_block d.place)) ≡ true = rw m.plain s.free in
-    cond_both (has_object d.objects (key_in_cache n text)) d (record d { objects = d.objects ++ (key_in_cache n text, kd) ∷ [] }) (λ e. Kept (with_item e x))
-    (λ there. item-kept d x d.objects h s.inside room m.good free (objects-known d.objects d.sessions d.session x (key_in_cache n text) kd h.objects m.object s.agreed there))
-    (λ new. item-kept d x (d.objects ++ (key_in_cache n text, kd) ∷ []) h s.inside room m.good free (objects-new d.objects d.sessions d.session x (key_in_cache n text) kd h.objects m.object s.agreed))
+    cond_both (has_object d.objects (key_in_cache n text)) d
+    (record d { objects = d.objects ++ (key_in_cache n text, kd) ∷ [] }) (λ e. Kept (with_item e x))
+    (λ there. item-kept d x d.objects h s.inside room m.good free
+    (objects-known d.objects d.sessions d.session x (key_in_cache n text) kd h.objects m.object s.agreed there))
+    (λ new. item-kept d x (d.objects ++ (key_in_cache n text, kd) ∷ []) h s.inside room m.good free
+    (objects-new d.objects d.sessions d.session x (key_in_cache n text) kd h.objects m.object s.agreed))
 
 keyed-kept : (d : Draft) (v : Verb) (key : KeyWords) → Kept d → GoodVerb v key → Holds Kept (with_keyed d v key)
 keyed-kept d v key h g = rule_then Kept (verb_stands d (kind_of v) (place_of_key d.caches key) key) Syntax _ (λ st.
     fit_then Kept key.cache what.Name _ (λ name cache. fit_then Kept key.key what.Key _ (λ text is.
-    ok_then Kept (keyed v (key_in_cache (unwrap_or (place_of_key d.caches key) 0) text)) _ (λ x e. rule_then Kept (has_room d) _ _ (λ room.
+    ok_then Kept (keyed v (key_in_cache (unwrap_or (place_of_key d.caches key) 0) text)) _
+    (λ x e. rule_then Kept (has_room d) _ _ (λ room.
     ok_then Kept (known_cache (place_of_key d.caches key)) _ (λ n found.
     let there : place_of_key d.caches key ≡ Some n = known_is _ n found in
     let place : cache_place d.caches name ≡ Some n = rw cache at there in
     let made_so : keyed v (key_in_cache n text) ≡ Ok x = rw there at e in
     let stands_so = stands_of d (kind_of v) key name n text cache is place st (verb_key v key g) in
-    rw there (pushed_key d (kind_of v) n text x h stands_so (made d.caches v (key_in_cache n text) x (verb_value v key g) stands_so.good made_so) room)))))))
+    rw there (pushed_key d (kind_of v) n text x h stands_so
+    (made d.caches v (key_in_cache n text) x (verb_value v key g) stands_so.good made_so) room)))))))
 
 -- every line
 
@@ -574,4 +674,5 @@ stepped-kept d (line.Keyed v key) h g = keyed-kept d v key h g
 stepped-kept d line.End h g = end-kept d h
 
 pub line-kept : (d : Draft) (bytes : List ℕ) → Kept d → Holds Kept (line_taken d bytes)
-line-kept d bytes h = then_holds Kept (GoodLine d.format) (line_meant d.format bytes) _ (line_of-good d.format bytes) (λ l g. stepped-kept d l h g)
+line-kept d bytes h = then_holds Kept (GoodLine d.format) (line_meant d.format bytes) _ (line_of-good d.format bytes)
+    (λ l g. stepped-kept d l h g)

@@ -16,7 +16,15 @@ use Rattle.ignite_types.specs.declared.scenario.Step.{Step}
 use Rattle.ignite_types.specs.declared.scenario.Step.TheVariants as step
 
 abbrev cache : List ℕ → ℕ → Bool → Bool → Cache
-cache name parts first data_line = record { name = name; parts = parts; backups = 1; near = 16; first = first; «data» = data_line }
+cache name parts first data_line = record {
+  name = name;
+  parts = parts;
+  backups = 1;
+  near = 16;
+  first = first;
+  «data» =
+      data_line;
+}
 
 abbrev member : ℕ → Bool → Member
 member n server = record { node = record { 0 = n }; server = server }
@@ -34,7 +42,8 @@ session name n commands = record { name = name; node = record { 0 = n }; command
 abbrev rich : List Item → Scenario
 rich commands = record {
   format = 2;
-  caches = cache (codes "m") 64 true false ∷ cache (codes "c") 8 true false ∷ cache (codes "d") 8 true true ∷ cache (codes "s") 944 false false ∷ [];
+  caches = cache (codes "m") 64 true false ∷ cache (codes "c") 8 true false ∷ cache (codes "d") 8 true true
+      ∷ cache (codes "s") 944 false false ∷ [];
   nodes = member 1 true ∷ member 2 false ∷ [];
   plan =
       at 1 (step.Hold (record { 0 = 1 }) (record { 0 = 5 }))
@@ -110,10 +119,16 @@ joins_twice = refl
 loses_no_node : good (planned (at 2 (step.Start 3) ∷ at 2 (step.Lose (record { 0 = 9 })) ∷ [])) ≡ false
 loses_no_node = refl
 
-too_many_partitions : good (record (planned (at 1 (step.Start 1) ∷ [])) { caches = cache (codes "m") 1024 true false ∷ cache (codes "s") 1 false false ∷ [] }) ≡ false
+too_many_partitions : good (record (planned (at 1 (step.Start 1) ∷ [])) {
+  caches =
+      cache (codes "m") 1024 true false ∷ cache (codes "s") 1 false false ∷ [];
+}) ≡ false
 too_many_partitions = refl
 
-data_before_cache : good (record (planned []) { caches = cache (codes "d") 1 true true ∷ cache (codes "m") 1 true false ∷ [] }) ≡ false
+data_before_cache : good (record (planned []) {
+  caches = cache (codes "d") 1 true true ∷ cache (codes "m") 1 true false
+      ∷ [];
+}) ≡ false
 data_before_cache = refl
 
 no_server : good (record (planned (at 1 (step.Start 3) ∷ [])) { nodes = member 1 false ∷ [] }) ≡ false

@@ -58,7 +58,8 @@ pub record SecondCaches (format : ℕ) (caches : List Cache) (partitions : ℕ) 
   pub most : partitions ≤ 1024
 
 abbrev pub CachesOf : ℕ → Settings → List Cache → ℕ → Type 0
-CachesOf format settings caches partitions = NoCaches format settings caches partitions ⊎ (FirstCaches format settings caches ⊎ SecondCaches format caches partitions)
+CachesOf format settings caches partitions = NoCaches format settings caches partitions
+    ⊎ (FirstCaches format settings caches ⊎ SecondCaches format caches partitions)
 
 -- what is not there yet
 pub record Placed (place : Place) (caches : List Cache) (plan : List PlanStep) (sessions : List Session) : Type 0 where
@@ -83,7 +84,8 @@ stop_fits caches before _ = true
 
 abbrev pub stops_fit : List Cache → List Step → List PlanStep → Bool
 stops_fit caches before [] = true
-stops_fit caches before (planned ∷ more) = stop_fits caches before planned.step && stops_fit caches (before ++ planned.step ∷ []) more
+stops_fit caches before (planned ∷ more) = stop_fits caches before planned.step
+    && stops_fit caches (before ++ planned.step ∷ []) more
 
 abbrev pub steps_of : List PlanStep → List Step
 steps_of plan = map (λ planned. planned.step) plan
@@ -128,7 +130,8 @@ is_block place.Block = true
 is_block _ = false
 
 -- the session that is being read
-pub record ScriptOf (place : Place) (named : List NodeId) (caches : List Cache) (sessions : List Session) (session : Session) : Type 0 where
+pub record ScriptOf (place : Place) (named : List NodeId) (caches : List Cache) (sessions : List Session)
+    (session : Session) : Type 0 where
   pub good : in_script place ≡ true → good_script named caches session ≡ true
   pub new : in_script place ≡ true → list_any (λ other. same_session_name other session) sessions ≡ false
   pub few : in_script place ≡ true → length sessions ≤ 63
@@ -144,7 +147,8 @@ kind_seen kind.Queue = Queue
 
 -- the table has this kind of this object
 abbrev pub in_table : List (Key × Kind) → Key × ObjectKind → Bool
-in_table objects object = list_any (λ known. same_object known.0 object.0 && good.same_kind (kind_seen known.1) object.1) objects
+in_table objects object = list_any (λ known. same_object known.0 object.0 && good.same_kind (kind_seen known.1) object.1)
+    objects
 
 abbrev pub objects_in : List Session → Session → List (Key × ObjectKind)
 objects_in sessions session = filter_map object_of (flat_map (λ whole. whole.commands) sessions ++ session.commands)

@@ -91,7 +91,8 @@ GoodLine format _ = Unit {0}
 
 -- texts
 
-all_allowed : (allowed : ℕ → Bool) (xs : List ℕ) → length xs ≤ position_or_len (λ b. not (allowed b)) xs → list_all allowed xs ≡ true
+all_allowed : (allowed : ℕ → Bool) (xs : List ℕ) → length xs ≤ position_or_len (λ b. not (allowed b)) xs →
+    list_all allowed xs ≡ true
 all_allowed allowed [] h = refl
 all_allowed allowed (x ∷ xs) h =
     elim (allowed x) as (λ r. allowed x ≡ r → list_all allowed (x ∷ xs) ≡ true) [
@@ -106,13 +107,15 @@ within_from least most n a b = and_from (nat_le least n) (nat_le n most) (le-leb
 positive : (n : ℕ) → (n ≡ 0 → ⊥) → 1 ≤ n
 positive n ne = omega arith
 
-unbroken : (room : ℕ) (allowed : ℕ → Bool) (bytes : List ℕ) → is_within 1 room (length bytes) ≡ true → (o : Option ℕ) → first_bad allowed bytes ≡ o → Holds (λ t. is_text allowed room t ≡ true) (unless_bad o bytes)
+unbroken : (room : ℕ) (allowed : ℕ → Bool) (bytes : List ℕ) → is_within 1 room (length bytes) ≡ true → (o : Option ℕ) →
+    first_bad allowed bytes ≡ o → Holds (λ t. is_text allowed room t ≡ true) (unless_bad o bytes)
 unbroken room allowed bytes w (Some place) e = tt
 unbroken room allowed bytes w None e =
     and_from (is_within 1 room (length bytes)) (list_all allowed bytes) w
     (all_allowed allowed bytes (place_none (λ b. not (allowed b)) bytes e))
 
-text_of-good : (room : ℕ) (allowed : ℕ → Bool) (bytes : List ℕ) → Holds (λ t. is_text allowed room t ≡ true) (text_of room allowed bytes)
+text_of-good : (room : ℕ) (allowed : ℕ → Bool) (bytes : List ℕ) →
+    Holds (λ t. is_text allowed room t ≡ true) (text_of room allowed bytes)
 text_of-good room allowed bytes =
     cond_both (length bytes == 0) _ _ (Holds (λ t. is_text allowed room t ≡ true)) (λ e. tt)
     (λ some. cond_both (nat_lt room (length bytes)) _ _ (Holds (λ t. is_text allowed room t ≡ true)) (λ e. tt)
@@ -120,7 +123,8 @@ text_of-good room allowed bytes =
     (within_from 1 room (length bytes) (positive (length bytes) (eqb-false _ _ some)) (ltb-false _ _ fits))
     (first_bad allowed bytes) refl))
 
-fitting-good : {A : Type 0} (P : A → Type 0) (formed : Bool) (r : Result A TextFault) → Holds P r → Holds (If P) (fitting formed r)
+fitting-good : {A : Type 0} (P : A → Type 0) (formed : Bool) (r : Result A TextFault) → Holds P r →
+    Holds (If P) (fitting formed r)
 fitting-good P formed (Ok x) h = h
 fitting-good P true (Err text.TooLong) h = tt
 fitting-good P false (Err text.TooLong) h = tt
@@ -130,16 +134,20 @@ fitting-good P true (Err (text.BadByte n)) h = tt
 fitting-good P false (Err (text.BadByte n)) h = tt
 
 key-good : (word : List ℕ) → Holds GoodText (key_of_word word)
-key-good word = fitting-good (λ k. is_text is_key_byte 32 k.text ≡ true) (list_all is_key_byte word) _ (in_first (text_of 32 is_key_byte word) (text_of-good 32 is_key_byte word))
+key-good word = fitting-good (λ k. is_text is_key_byte 32 k.text ≡ true) (list_all is_key_byte word) _
+    (in_first (text_of 32 is_key_byte word) (text_of-good 32 is_key_byte word))
   where
-    in_first : (r : Result (List ℕ) TextFault) → Holds (λ t. is_text is_key_byte 32 t ≡ true) r → Holds (λ k. is_text is_key_byte 32 k.text ≡ true) (in_cache 0 r)
+    in_first : (r : Result (List ℕ) TextFault) → Holds (λ t. is_text is_key_byte 32 t ≡ true) r →
+        Holds (λ k. is_text is_key_byte 32 k.text ≡ true) (in_cache 0 r)
     in_first (Ok t) h = h
     in_first (Err e) h = tt
 
 value-good : (word : List ℕ) → Holds GoodValue (value_of_word word)
-value-good word = fitting-good (λ v. good_value v ≡ true) (list_all is_value_byte word) (text_of 64 is_value_byte word) (text_of-good 64 is_value_byte word)
+value-good word = fitting-good (λ v. good_value v ≡ true) (list_all is_value_byte word) (text_of 64 is_value_byte word)
+    (text_of-good 64 is_value_byte word)
 
-named_from : (word : List ℕ) → ((length word == 0) || not (list_all is_name_byte word)) ≡ false → nat_le (length word) 16 ≡ true → is_name word ≡ true
+named_from : (word : List ℕ) → ((length word == 0) || not (list_all is_name_byte word)) ≡ false →
+    nat_le (length word) 16 ≡ true → is_name word ≡ true
 named_from word form short =
     let apart = none (length word == 0) (list_all is_name_byte word) form in
     and_from (is_within 1 16 (length word)) (list_all is_name_byte word)
@@ -179,25 +187,29 @@ cache_words-good : (rest : List (List ℕ)) → Holds (λ w. GoodName w.name) (c
 cache_words-good rest =
     any_then (λ w. GoodName w.name) (words.four_words rest) _ (λ found.
     then_holds (λ w. GoodName w.name) GoodName (name found.0) _ (name-good found.0) (λ called h.
-    any_then (λ w. GoodName w.name) (number_of_word found.1) _ (λ parts. any_then (λ w. GoodName w.name) (number_of_word found.2) _ (λ backups.
+    any_then (λ w. GoodName w.name) (number_of_word found.1) _
+    (λ parts. any_then (λ w. GoodName w.name) (number_of_word found.2) _ (λ backups.
     any_then (λ w. GoodName w.name) (number_of_word found.3) _ (λ near. h)))))
 
 -- lines
 
 head-good : (format : ℕ) (rest : List (List ℕ)) → Holds (GoodLine format) (head_line rest)
 head-good format rest =
-    any_then (GoodLine format) (only_word rest) _ (λ w. then_holds (GoodLine format) (λ f. (f ≡ 1) ⊎ (f ≡ 2)) (format_of w) _ (of w) (λ f h. h))
+    any_then (GoodLine format) (only_word rest) _ (λ w. then_holds (GoodLine format) (λ f. (f ≡ 1) ⊎ (f ≡ 2)) (format_of w) _
+    (of w) (λ f h. h))
   where
     of : (w : List ℕ) → Holds (λ f. (f ≡ 1) ⊎ (f ≡ 2)) (format_of w)
     of w = cond_both (bytes_eq w (codes "1")) _ _ (Holds (λ f. (f ≡ 1) ⊎ (f ≡ 2))) (λ e. inl refl)
         (λ e. cond_both (bytes_eq w (codes "2")) _ _ (Holds (λ f. (f ≡ 1) ⊎ (f ≡ 2))) (λ e. inr refl) (λ e. tt))
 
-setting-good : (format : ℕ) (s : Setting) (rest : List (List ℕ)) → (format == 2) ≡ false → Holds (GoodLine format) (setting_line s rest)
+setting-good : (format : ℕ) (s : Setting) (rest : List (List ℕ)) → (format == 2) ≡ false →
+    Holds (GoodLine format) (setting_line s rest)
 setting-good format s rest h =
     any_then (GoodLine format) (only_word rest) _ (λ w. any_then (GoodLine format) (number_of_word w) _ (λ n. h))
 
 cache-good : (format : ℕ) (d : Bool) (rest : List (List ℕ)) → (format == 2) ≡ true → Holds (GoodLine format) (cache_line d rest)
-cache-good format d rest h = then_holds (GoodLine format) (λ w. GoodName w.name) (cache_words rest) _ (cache_words-good rest) (λ w g. (h, g))
+cache-good format d rest h = then_holds (GoodLine format) (λ w. GoodName w.name) (cache_words rest) _ (cache_words-good rest)
+    (λ w g. (h, g))
 
 member-good : (format : ℕ) (server : Bool) (rest : List (List ℕ)) → Holds (GoodLine format) (member_line server rest)
 member-good format server rest =
@@ -221,7 +233,8 @@ bare-good : (format : ℕ) (l : Line) (rest : List (List ℕ)) → GoodLine form
 bare-good format l [] h = h
 bare-good format l (w ∷ rest) h = tt
 
-key_line-good : (format : ℕ) (v : Verb) (rest : List (List ℕ)) → ((k : KeyWords) → GoodText k.key → GoodVerb v k) → Holds (GoodLine format) (key_line format v rest)
+key_line-good : (format : ℕ) (v : Verb) (rest : List (List ℕ)) → ((k : KeyWords) → GoodText k.key → GoodVerb v k) →
+    Holds (GoodLine format) (key_line format v rest)
 key_line-good format v rest f =
     any_then (GoodLine format) (only_word rest) _ (λ w.
     then_holds (GoodLine format) (λ k. GoodText k.key) (key_words format w) _ (key_words-good format w) (λ k h. f k h))
@@ -238,7 +251,8 @@ key_integer-good format rest =
     then_holds (GoodLine format) (λ k. GoodText k.key) (key_words format w.0) _ (key_words-good format w.0)
     (λ k h. any_then (GoodLine format) (integer w.1) _ (λ i. h)))
 
-object_line-good : (format : ℕ) (v : Verb) (rest : List (List ℕ)) → ((k : KeyWords) → GoodObject k.key → GoodVerb v k) → Holds (GoodLine format) (object_line v rest)
+object_line-good : (format : ℕ) (v : Verb) (rest : List (List ℕ)) → ((k : KeyWords) → GoodObject k.key → GoodVerb v k) →
+    Holds (GoodLine format) (object_line v rest)
 object_line-good format v rest f =
     any_then (GoodLine format) (only_word rest) _ (λ w.
     then_holds (GoodLine format) (λ k. GoodObject k.key) (object_words w) _ (object_words-good w) (λ k h. f k h))
@@ -268,25 +282,38 @@ fits-step_keyword format word =
     (λ e. cond_both (bytes_eq word (codes "lose")) _ _ (If (FitsStep format)) (λ e. tt)
     (λ e. cond_both (bytes_eq word (codes "hold")) _ _ (If (FitsStep format)) (λ e. tt)
     (λ e. cond_both (bytes_eq word (codes "release")) _ _ (If (FitsStep format)) (λ e. tt)
-    (λ e. cond_both ((format == 2) && bytes_eq word (codes "start")) _ _ (If (FitsStep format)) (λ e. (and_parts (format == 2) (bytes_eq word (codes "start")) e).0)
+    (λ e. cond_both ((format == 2) && bytes_eq word (codes "start")) _ _ (If (FitsStep format))
+    (λ e. (and_parts (format == 2) (bytes_eq word (codes "start")) e).0)
     (λ e. cond_both ((format == 2) && bytes_eq word (codes "stop")) _ _ (If (FitsStep format)) (λ e. tt) (λ e. tt))))))
 
-step-good : (format moment : ℕ) (k : StepKeyword) (rest : List (List ℕ)) → FitsStep format k → Holds (GoodLine format) (step_meant moment k rest)
-step-good format moment step.Join rest f = any_then (GoodLine format) (two_words rest) _ (λ w. any_then (GoodLine format) (node_of_word w.0) _ (λ n. any_then (GoodLine format) (role w.1) _ (λ s. tt)))
-step-good format moment step.Lose rest f = any_then (GoodLine format) (only_word rest) _ (λ w. any_then (GoodLine format) (node_of_word w) _ (λ n. refl))
-step-good format moment step.Hold rest f = any_then (GoodLine format) (two_words rest) _ (λ w. any_then (GoodLine format) (node_of_word w.0) _ (λ n. any_then (GoodLine format) (node_of_word w.1) _ (λ m. refl)))
-step-good format moment step.Release rest f = any_then (GoodLine format) (two_words rest) _ (λ w. any_then (GoodLine format) (node_of_word w.0) _ (λ n. any_then (GoodLine format) (node_of_word w.1) _ (λ m. refl)))
-step-good format moment step.Start rest f = then_holds (GoodLine format) (λ w. GoodName w.name) (cache_words rest) _ (cache_words-good rest) (λ w g. (f, g))
+step-good : (format moment : ℕ) (k : StepKeyword) (rest : List (List ℕ)) → FitsStep format k →
+    Holds (GoodLine format) (step_meant moment k rest)
+step-good format moment step.Join rest f =
+    any_then (GoodLine format) (two_words rest) _ (λ w. any_then (GoodLine format) (node_of_word w.0) _
+    (λ n. any_then (GoodLine format) (role w.1) _ (λ s. tt)))
+step-good format moment step.Lose rest f =
+    any_then (GoodLine format) (only_word rest) _ (λ w. any_then (GoodLine format) (node_of_word w) _ (λ n. refl))
+step-good format moment step.Hold rest f =
+    any_then (GoodLine format) (two_words rest) _ (λ w. any_then (GoodLine format) (node_of_word w.0) _
+    (λ n. any_then (GoodLine format) (node_of_word w.1) _ (λ m. refl)))
+step-good format moment step.Release rest f =
+    any_then (GoodLine format) (two_words rest) _ (λ w. any_then (GoodLine format) (node_of_word w.0) _
+    (λ n. any_then (GoodLine format) (node_of_word w.1) _ (λ m. refl)))
+step-good format moment step.Start rest f = then_holds (GoodLine format) (λ w. GoodName w.name) (cache_words rest) _
+    (cache_words-good rest) (λ w g. (f, g))
 step-good format moment step.Stop rest f =
-    any_then (GoodLine format) (only_word rest) _ (λ w. then_holds (GoodLine format) GoodName (name w) _ (name-good w) (λ called h. h))
+    any_then (GoodLine format) (only_word rest) _ (λ w. then_holds (GoodLine format) GoodName (name w) _ (name-good w)
+    (λ called h. h))
 
 plan-good : (format : ℕ) (rest : List (List ℕ)) → Holds (GoodLine format) (plan_line format rest)
 plan-good format [] = tt
 plan-good format (first ∷ []) = tt
 plan-good format (first ∷ second ∷ rest) =
-    any_then (GoodLine format) (number_of_word first) _ (λ moment. or_syntax moment (step_keyword format second) (fits-step_keyword format second))
+    any_then (GoodLine format) (number_of_word first) _ (λ moment. or_syntax moment (step_keyword format second)
+    (fits-step_keyword format second))
   where
-    or_syntax : (moment : ℕ) (o : Option StepKeyword) → If (FitsStep format) o → Holds (GoodLine format) (step_or_syntax moment o rest)
+    or_syntax : (moment : ℕ) (o : Option StepKeyword) → If (FitsStep format) o →
+        Holds (GoodLine format) (step_or_syntax moment o rest)
     or_syntax moment (Some k) f = step-good format moment k rest f
     or_syntax moment None f = tt
 
@@ -340,16 +367,20 @@ fits-command format word =
     (λ e. cond_both (bytes_eq word (codes "sleep")) _ _ (If (FitsKeyword format)) (λ e. tt)
     (λ e. tt))))))))
 
-fits-or : (format : ℕ) (a b : Option Keyword) → If (FitsKeyword format) a → If (FitsKeyword format) b → If (FitsKeyword format) (or_else a b)
+fits-or : (format : ℕ) (a b : Option Keyword) → If (FitsKeyword format) a → If (FitsKeyword format) b →
+    If (FitsKeyword format) (or_else a b)
 fits-or format (Some k) b h g = h
 fits-or format None b h g = g
 
 fits-keyword : (format : ℕ) (word : List ℕ) → If (FitsKeyword format) (keyword_of format word)
 fits-keyword format word =
-    fits-or format (shared_keyword word) _ (fits-shared format word) (fits-or format (command_keyword word) _ (fits-command format word)
-    (cond_both (format == 2) (second_keyword word) (first_keyword word) (If (FitsKeyword format)) (λ e. fits-second format word e) (λ e. fits-first format word e)))
+    fits-or format (shared_keyword word) _ (fits-shared format word)
+    (fits-or format (command_keyword word) _ (fits-command format word)
+    (cond_both (format == 2) (second_keyword word) (first_keyword word) (If (FitsKeyword format))
+    (λ e. fits-second format word e) (λ e. fits-first format word e)))
 
-meant-good : (format : ℕ) (k : Keyword) (rest : List (List ℕ)) → FitsKeyword format k → Holds (GoodLine format) (meant format k rest)
+meant-good : (format : ℕ) (k : Keyword) (rest : List (List ℕ)) → FitsKeyword format k →
+    Holds (GoodLine format) (meant format k rest)
 meant-good format keyword.Scenario rest f = head-good format rest
 meant-good format keyword.Parts rest f = setting-good format setting.Parts rest f
 meant-good format keyword.Backups rest f = setting-good format setting.Backups rest f
@@ -374,7 +405,8 @@ meant-good format keyword.Next rest f = object_line-good format verb.Next rest (
 meant-good format keyword.Offer rest f = object_value-good format rest
 meant-good format keyword.Poll rest f = object_line-good format verb.Poll rest (λ k h. h)
 
-known-good : (format : ℕ) (o : Option Keyword) (rest : List (List ℕ)) → If (FitsKeyword format) o → Holds (GoodLine format) (known_line format o rest)
+known-good : (format : ℕ) (o : Option Keyword) (rest : List (List ℕ)) → If (FitsKeyword format) o →
+    Holds (GoodLine format) (known_line format o rest)
 known-good format (Some k) rest f = meant-good format k rest f
 known-good format None rest f = tt
 

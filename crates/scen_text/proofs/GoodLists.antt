@@ -9,7 +9,8 @@ use Rattle.ignite_types.specs.declared.scenario.Cache.{Cache}
 use Rattle.ignite_types.specs.declared.scenario.PlanStep.{PlanStep}
 use Rattle.scen_text.specs.Known.{rises}
 
-pub pushed_all : {A : Type 0} (p : A → Bool) (xs : List A) (x : A) → list_all p xs ≡ true → p x ≡ true → list_all p (xs ++ x ∷ []) ≡ true
+pub pushed_all : {A : Type 0} (p : A → Bool) (xs : List A) (x : A) → list_all p xs ≡ true → p x ≡ true →
+    list_all p (xs ++ x ∷ []) ≡ true
 pushed_all p xs x h t = list_all-append p xs (x ∷ []) ∙ and_from (list_all p xs) (p x && true) h (and_from (p x) true t refl)
 
 pub none_of : (a b : Bool) → (a || b) ≡ false → (a ≡ false) × (b ≡ false)
@@ -17,7 +18,8 @@ none_of false b h = (refl, h)
 none_of true b h = cc
 
 -- the new element is not the same as one before it
-pub pushed_distinct : {A : Type 0} (same : A → A → Bool) (xs : List A) (x : A) → are_distinct same xs ≡ true → list_any (λ y. same y x) xs ≡ false
+pub pushed_distinct : {A : Type 0} (same : A → A → Bool) (xs : List A) (x : A) → are_distinct same xs ≡ true →
+    list_any (λ y. same y x) xs ≡ false
     → are_distinct same (xs ++ x ∷ []) ≡ true
 pushed_distinct same [] x h n = refl
 pushed_distinct same (y ∷ ys) x h n =
@@ -29,7 +31,8 @@ pushed_distinct same (y ∷ ys) x h n =
     (pushed_distinct same ys x parts.1 apart.1)
 
 -- the new moment is below none before it
-pub pushed_moment : (plan : List PlanStep) (x : PlanStep) → no_moment_falls plan ≡ true → rises plan x.moment ≡ true → no_moment_falls (plan ++ x ∷ []) ≡ true
+pub pushed_moment : (plan : List PlanStep) (x : PlanStep) → no_moment_falls plan ≡ true → rises plan x.moment ≡ true →
+    no_moment_falls (plan ++ x ∷ []) ≡ true
 pushed_moment [] x h r = refl
 pushed_moment (y ∷ []) x h r = r
 pushed_moment (y ∷ z ∷ more) x h r =
@@ -49,7 +52,8 @@ may_precede y x = has_cache_line y || (has_data_line y && not (has_cache_line x)
 
 abbrev pub shape : Bool → Bool → Bool → Bool → Bool → Bool → Bool
 shape first is_data x_line x_started any all =
-    (first && not is_data) || ((first && is_data) && not (any || (x_line || false))) || ((not first && not is_data) && (all && (x_started && true)))
+    (first && not is_data) || ((first && is_data) && not (any || (x_line || false)))
+    || ((not first && not is_data) && (all && (x_started && true)))
 
 may_stand : (first is_data x_line x_started any all : Bool)
     → ((first && not is_data) || ((first && is_data) && not any) || ((not first && not is_data) && all)) ≡ true
@@ -64,18 +68,23 @@ may_stand false false x false any all h m = cc
 may_stand false false x s any false h m = cc
 may_stand false true x s any all h m = cc
 
-pub pushed_order : (xs : List Cache) (x : Cache) → in_order xs ≡ true → list_all (λ y. may_precede y x) xs ≡ true → (has_cache_line x || has_data_line x || is_started x) ≡ true → in_order (xs ++ x ∷ []) ≡ true
+pub pushed_order : (xs : List Cache) (x : Cache) → in_order xs ≡ true → list_all (λ y. may_precede y x) xs ≡ true →
+    (has_cache_line x || has_data_line x || is_started x) ≡ true → in_order (xs ++ x ∷ []) ≡ true
 pushed_order [] x h p k = alone x.first x.«data» k
   where
-    alone : (f d : Bool) → ((f && not d) || (f && d) || (not f && not d)) ≡ true → (((f && not d) || ((f && d) && true) || ((not f && not d) && true)) && true) ≡ true
+    alone : (f d : Bool) → ((f && not d) || (f && d) || (not f && not d)) ≡ true →
+        (((f && not d) || ((f && d) && true) || ((not f && not d) && true)) && true) ≡ true
     alone true true k = refl
     alone true false k = refl
     alone false true k = k
     alone false false k = refl
 pushed_order (y ∷ ys) x h p k =
-    let parts = and_parts (has_cache_line y || (has_data_line y && not (list_any has_cache_line ys)) || (is_started y && list_all is_started ys)) (in_order ys) h in
+    let parts = and_parts (has_cache_line y || (has_data_line y && not (list_any has_cache_line ys))
+    || (is_started y && list_all is_started ys)) (in_order ys) h in
     let pre = and_parts (may_precede y x) (list_all (λ z. may_precede z x) ys) p in
-    and_from (has_cache_line y || (has_data_line y && not (list_any has_cache_line (ys ++ x ∷ []))) || (is_started y && list_all is_started (ys ++ x ∷ []))) (in_order (ys ++ x ∷ []))
+    and_from (has_cache_line y || (has_data_line y && not (list_any has_cache_line (ys ++ x ∷ [])))
+    || (is_started y && list_all is_started (ys ++ x ∷ []))) (in_order (ys ++ x ∷ []))
     (rw (list_any-append has_cache_line ys (x ∷ []), list_all-append is_started ys (x ∷ []))
-    (may_stand y.first y.«data» (has_cache_line x) (is_started x) (list_any has_cache_line ys) (list_all is_started ys) parts.0 pre.0))
+    (may_stand y.first y.«data» (has_cache_line x) (is_started x) (list_any has_cache_line ys) (list_all is_started ys)
+    parts.0 pre.0))
     (pushed_order ys x parts.1 pre.1 k)

@@ -56,28 +56,36 @@ block_after p _ = refl
 
 -- one more command of a session
 
-open-pushed : (opened : Bool) (xs : List Item) (x : Item) → open_after opened (xs ++ x ∷ []) ≡ open_behind (open_after opened xs) x
+open-pushed : (opened : Bool) (xs : List Item) (x : Item) →
+    open_after opened (xs ++ x ∷ []) ≡ open_behind (open_after opened xs) x
 open-pushed opened [] x = refl
 open-pushed opened (y ∷ ys) x = open-pushed (open_behind opened y) ys x
 
-blocks-pushed : (opened : Bool) (xs : List Item) (x : Item) → good_blocks opened xs ≡ true → (is_plain x || not (open_after opened xs)) ≡ true → good_blocks opened (xs ++ x ∷ []) ≡ true
+blocks-pushed : (opened : Bool) (xs : List Item) (x : Item) → good_blocks opened xs ≡ true →
+    (is_plain x || not (open_after opened xs)) ≡ true → good_blocks opened (xs ++ x ∷ []) ≡ true
 blocks-pushed opened [] x h p = and_from (is_plain x || not opened) true p refl
 blocks-pushed opened (y ∷ ys) x h p =
     let parts = and_parts (is_plain y || not opened) (good_blocks (open_behind opened y) ys) h in
-    and_from (is_plain y || not opened) (good_blocks (open_behind opened y) (ys ++ x ∷ [])) parts.0 (blocks-pushed (open_behind opened y) ys x parts.1 p)
+    and_from (is_plain y || not opened) (good_blocks (open_behind opened y) (ys ++ x ∷ [])) parts.0
+    (blocks-pushed (open_behind opened y) ys x parts.1 p)
 
-pub open_now : (p : Place) (xs : List Item) (x : Item) → open_after false xs ≡ is_block p → open_after false (xs ++ x ∷ []) ≡ is_block (place_after p x)
+pub open_now : (p : Place) (xs : List Item) (x : Item) → open_after false xs ≡ is_block p →
+    open_after false (xs ++ x ∷ []) ≡ is_block (place_after p x)
 open_now p xs x h = open-pushed false xs x ∙ (rw h (block_after p x))
 
-pub script-pushed : (named : List NodeId) (caches : List Cache) (s : Session) (x : Item) → good_script named caches s ≡ true → length s.commands < 1000 → good_item caches x ≡ true
-    → (is_plain x || not (open_after false s.commands)) ≡ true → good_script named caches (record s { commands = s.commands ++ x ∷ [] }) ≡ true
+pub script-pushed : (named : List NodeId) (caches : List Cache) (s : Session) (x : Item) → good_script named caches s ≡ true →
+    length s.commands < 1000 → good_item caches x ≡ true
+    → (is_plain x || not (open_after false s.commands)) ≡ true →
+    good_script named caches (record s { commands = s.commands ++ x ∷ [] }) ≡ true
 script-pushed named caches s x h few g p =
-    let a = and_parts (is_name s.name && _ && nat_le (length s.commands) 1000 && list_all (good_item caches) s.commands) (good_blocks false s.commands) h in
+    let a = and_parts (is_name s.name && _ && nat_le (length s.commands) 1000 && list_all (good_item caches) s.commands)
+    (good_blocks false s.commands) h in
     let b = and_parts (is_name s.name && _ && nat_le (length s.commands) 1000) (list_all (good_item caches) s.commands) a.0 in
     let c = and_parts (is_name s.name && _) (nat_le (length s.commands) 1000) b.0 in
     and_from _ (good_blocks false (s.commands ++ x ∷ []))
     (and_from _ (list_all (good_item caches) (s.commands ++ x ∷ []))
-    (and_from _ (nat_le (length (s.commands ++ x ∷ [])) 1000) c.0 (le-leb _ _ (omega (arith, length-append s.commands (x ∷ [])))))
+    (and_from _ (nat_le (length (s.commands ++ x ∷ [])) 1000) c.0
+    (le-leb _ _ (omega (arith, length-append s.commands (x ∷ [])))))
     (pushed_all (good_item caches) s.commands x b.1 g))
     (blocks-pushed false s.commands x a.1 p)
 
@@ -119,37 +127,52 @@ pub record Made (caches : List Cache) (k : Key) (kd : Option Kind) (x : Item) : 
 abbrev answered : Item → Result Item Cause
 answered x = Ok x
 
-made_as : (caches : List Cache) (k : Key) (kd : Option Kind) (x y : Item) → Made caches k kd x → answered x ≡ answered y → Made caches k kd y
+made_as : (caches : List Cache) (k : Key) (kd : Option Kind) (x y : Item) → Made caches k kd x → answered x ≡ answered y →
+    Made caches k kd y
 made_as caches k kd x y m e = let same : x ≡ y = cc in let P : Item → Type 0 = Made caches k kd in subst P same m
 
-made-put : (caches : List Cache) (o : Option (List ℕ)) (k : Key) (x : Item) → GoodValue o → good_key caches k ≡ true → keyed (verb.Put o) k ≡ Ok x → Made caches k None x
+made-put : (caches : List Cache) (o : Option (List ℕ)) (k : Key) (x : Item) → GoodValue o → good_key caches k ≡ true →
+    keyed (verb.Put o) k ≡ Ok x → Made caches k None x
 made-put caches None k x v g e = cc
-made-put caches (Some w) k x v g e = made_as caches k None (item.Plain (command.Put k w)) x (record { good = and_from (good_key caches k) (good_value w) g v; plain = refl; object = refl }) e
+made-put caches (Some w) k x v g e = made_as caches k None (item.Plain (command.Put k w)) x
+    (record { good = and_from (good_key caches k) (good_value w) g v; plain = refl; object = refl }) e
 
-made-offer : (caches : List Cache) (o : Option (List ℕ)) (k : Key) (x : Item) → GoodValue o → good_object caches k ≡ true → keyed (verb.Offer o) k ≡ Ok x → Made caches k (Some kind.Queue) x
+made-offer : (caches : List Cache) (o : Option (List ℕ)) (k : Key) (x : Item) → GoodValue o → good_object caches k ≡ true →
+    keyed (verb.Offer o) k ≡ Ok x → Made caches k (Some kind.Queue) x
 made-offer caches None k x v g e = cc
-made-offer caches (Some w) k x v g e = made_as caches k (Some kind.Queue) (item.Offer k w) x (record { good = and_from (good_object caches k) (good_value w) g v; plain = refl; object = refl }) e
+made-offer caches (Some w) k x v g e = made_as caches k (Some kind.Queue) (item.Offer k w) x
+    (record { good = and_from (good_object caches k) (good_value w) g v; plain = refl; object = refl }) e
 
-pub made : (caches : List Cache) (v : Verb) (k : Key) (x : Item) → GoodValue (value_of v) → GoodFor caches k (kind_of v) → keyed v k ≡ Ok x → Made caches k (kind_of v) x
-made caches verb.Get k x v g e = made_as caches k None (item.Plain (command.Get k)) x (record { good = g; plain = refl; object = refl }) e
+pub made : (caches : List Cache) (v : Verb) (k : Key) (x : Item) → GoodValue (value_of v) → GoodFor caches k (kind_of v) →
+    keyed v k ≡ Ok x → Made caches k (kind_of v) x
+made caches verb.Get k x v g e = made_as caches k None (item.Plain (command.Get k)) x
+    (record { good = g; plain = refl; object = refl }) e
 made caches (verb.Put o) k x v g e = made-put caches o k x v g e
-made caches verb.Remove k x v g e = made_as caches k None (item.Plain (command.Remove k)) x (record { good = g; plain = refl; object = refl }) e
-made caches (verb.Add n) k x v g e = made_as caches k None (item.Plain (command.Add k n)) x (record { good = g; plain = refl; object = refl }) e
-made caches (verb.Incr n) k x v g e = made_as caches k (Some kind.Long) (item.Incr k n) x (record { good = g; plain = refl; object = refl }) e
-made caches verb.Next k x v g e = made_as caches k (Some kind.Sequence) (item.Next k) x (record { good = g; plain = refl; object = refl }) e
+made caches verb.Remove k x v g e = made_as caches k None (item.Plain (command.Remove k)) x
+    (record { good = g; plain = refl; object = refl }) e
+made caches (verb.Add n) k x v g e = made_as caches k None (item.Plain (command.Add k n)) x
+    (record { good = g; plain = refl; object = refl }) e
+made caches (verb.Incr n) k x v g e = made_as caches k (Some kind.Long) (item.Incr k n) x
+    (record { good = g; plain = refl; object = refl }) e
+made caches verb.Next k x v g e = made_as caches k (Some kind.Sequence) (item.Next k) x
+    (record { good = g; plain = refl; object = refl }) e
 made caches (verb.Offer o) k x v g e = made-offer caches o k x v g e
-made caches verb.Poll k x v g e = made_as caches k (Some kind.Queue) (item.Poll k) x (record { good = g; plain = refl; object = refl }) e
+made caches verb.Poll k x v g e = made_as caches k (Some kind.Queue) (item.Poll k) x
+    (record { good = g; plain = refl; object = refl }) e
 
 -- objects
 
 objects-pushed : (sessions : List Session) (s : Session) (x : Item)
-    → objects_in sessions (record s { commands = s.commands ++ x ∷ [] }) ≡ objects_in sessions s ++ filter_map object_of (x ∷ [])
+    → objects_in sessions (record s { commands = s.commands ++ x ∷ [] }) ≡ objects_in sessions s ++ filter_map object_of
+    (x ∷ [])
 objects-pushed sessions s x =
     let before : List Item = flat_map (λ (whole : Session). whole.commands) sessions in
-    ap (filter_map object_of) (sym (append_assoc before s.commands (x ∷ []))) ∙ filter_map-append object_of (before ++ s.commands) (x ∷ [])
+    ap (filter_map object_of) (sym (append_assoc before s.commands (x ∷ [])))
+    ∙ filter_map-append object_of (before ++ s.commands) (x ∷ [])
 
 -- a command that names no object
-pub objects-plain : (objects : List (Key × Kind)) (sessions : List Session) (s : Session) (x : Item) → ObjectsOf objects sessions s → object_of x ≡ None
+pub objects-plain : (objects : List (Key × Kind)) (sessions : List Session) (s : Session) (x : Item) →
+    ObjectsOf objects sessions s → object_of x ≡ None
     → ObjectsOf objects sessions (record s { commands = s.commands ++ x ∷ [] })
 objects-plain objects sessions s x h e =
     let same : objects_in sessions (record s { commands = s.commands ++ x ∷ [] }) ≡ objects_in sessions s =
@@ -165,9 +188,11 @@ same_trans a b c h g =
     ((bytes_eq-Decides a.text c.text).1 ((bytes_eq-Decides a.text b.text).0 p.1 ∙ (bytes_eq-Decides b.text c.text).0 q.1))
 
 same_self : (a : Key) → same_object a a ≡ true
-same_self a = and_from (a.cache == a.cache) (bytes_eq a.text a.text) (eq-eqb a.cache a.cache refl) ((bytes_eq-Decides a.text a.text).1 refl)
+same_self a = and_from (a.cache == a.cache) (bytes_eq a.text a.text) (eq-eqb a.cache a.cache refl)
+    ((bytes_eq-Decides a.text a.text).1 refl)
 
-kinds_meet : (a b : Kind) (o : ObjectKind) → good.same_kind (kind_seen a) o ≡ true → same_object_kind a b ≡ true → good.same_kind o (kind_seen b) ≡ true
+kinds_meet : (a b : Kind) (o : ObjectKind) → good.same_kind (kind_seen a) o ≡ true → same_object_kind a b ≡ true →
+    good.same_kind o (kind_seen b) ≡ true
 kinds_meet kind.Long kind.Long good.Long h g = refl
 kinds_meet kind.Sequence kind.Sequence good.Sequence h g = refl
 kinds_meet kind.Queue kind.Queue good.Queue h g = refl
@@ -214,68 +239,91 @@ unless true b f = f refl
 unless false b f = refl
 
 -- an object of the table is of the kind that the table has
-agrees_with : (objects : List (Key × Kind)) (k : Key) (kd : Kind) (o : Key × ObjectKind) → is_other objects k kd ≡ false → in_table objects o ≡ true → agree_in_kind o (k, kind_seen kd) ≡ true
+agrees_with : (objects : List (Key × Kind)) (k : Key) (kd : Kind) (o : Key × ObjectKind) → is_other objects k kd ≡ false →
+    in_table objects o ≡ true → agree_in_kind o (k, kind_seen kd) ≡ true
 agrees_with [] k kd o h t = cc
 agrees_with (known ∷ objects) k kd o h t =
     let none = none_of (same_object known.0 k && not (same_object_kind known.1 kd)) (is_other objects k kd) h in
     or_cases (same_object known.0 o.0 && good.same_kind (kind_seen known.1) o.1) (in_table objects o) t
     (λ here. let both = and_parts (same_object known.0 o.0) (good.same_kind (kind_seen known.1) o.1) here in
     unless (same_object o.0 k) (good.same_kind o.1 (kind_seen kd))
-    (λ same. kinds_meet known.1 kd o.1 both.1 (not_both (same_object known.0 k) (same_object_kind known.1 kd) none.0 (same_trans known.0 o.0 k both.0 same))))
+    (λ same. kinds_meet known.1 kd o.1 both.1 (not_both (same_object known.0 k) (same_object_kind known.1 kd) none.0
+    (same_trans known.0 o.0 k both.0 same))))
     (λ there. agrees_with objects k kd o none.1 there)
 
-all_agree : (objects : List (Key × Kind)) (k : Key) (kd : Kind) (os : List (Key × ObjectKind)) → is_other objects k kd ≡ false → list_all (in_table objects) os ≡ true
+all_agree : (objects : List (Key × Kind)) (k : Key) (kd : Kind) (os : List (Key × ObjectKind)) →
+    is_other objects k kd ≡ false → list_all (in_table objects) os ≡ true
     → list_all (λ o. agree_in_kind o (k, kind_seen kd)) os ≡ true
 all_agree objects k kd [] h t = refl
 all_agree objects k kd (o ∷ os) h t =
     let parts = and_parts (in_table objects o) (list_all (in_table objects) os) t in
-    and_from (agree_in_kind o (k, kind_seen kd)) (list_all (λ p. agree_in_kind p (k, kind_seen kd)) os) (agrees_with objects k kd o h parts.0) (all_agree objects k kd os h parts.1)
+    and_from (agree_in_kind o (k, kind_seen kd)) (list_all (λ p. agree_in_kind p (k, kind_seen kd)) os)
+    (agrees_with objects k kd o h parts.0) (all_agree objects k kd os h parts.1)
 
-kinds-pushed : (os : List (Key × ObjectKind)) (x : Key × ObjectKind) → good_kinds os ≡ true → list_all (λ o. agree_in_kind o x) os ≡ true → good_kinds (os ++ x ∷ []) ≡ true
+kinds-pushed : (os : List (Key × ObjectKind)) (x : Key × ObjectKind) → good_kinds os ≡ true →
+    list_all (λ o. agree_in_kind o x) os ≡ true → good_kinds (os ++ x ∷ []) ≡ true
 kinds-pushed [] x h a = refl
 kinds-pushed (o ∷ os) x h a =
     let parts = and_parts (list_all (agree_in_kind o) os) (good_kinds os) h in
     let now = and_parts (agree_in_kind o x) (list_all (λ p. agree_in_kind p x) os) a in
-    and_from (list_all (agree_in_kind o) (os ++ x ∷ [])) (good_kinds (os ++ x ∷ [])) (pushed_all (agree_in_kind o) os x parts.0 now.0) (kinds-pushed os x parts.1 now.1)
+    and_from (list_all (agree_in_kind o) (os ++ x ∷ [])) (good_kinds (os ++ x ∷ []))
+    (pushed_all (agree_in_kind o) os x parts.0 now.0) (kinds-pushed os x parts.1 now.1)
 
 -- the table has the object, with its kind
-has_kind : (objects : List (Key × Kind)) (k : Key) (kd : Kind) → is_other objects k kd ≡ false → has_object objects k ≡ true → in_table objects (k, kind_seen kd) ≡ true
+has_kind : (objects : List (Key × Kind)) (k : Key) (kd : Kind) → is_other objects k kd ≡ false → has_object objects k ≡ true →
+    in_table objects (k, kind_seen kd) ≡ true
 has_kind [] k kd h t = cc
 has_kind (known ∷ objects) k kd h t =
     let none = none_of (same_object known.0 k && not (same_object_kind known.1 kd)) (is_other objects k kd) h in
     or_cases (same_object known.0 k) (has_object objects k) t
     (λ here. or_left (same_object known.0 k && good.same_kind (kind_seen known.1) (kind_seen kd)) _
-    (and_from (same_object known.0 k) (good.same_kind (kind_seen known.1) (kind_seen kd)) here (kind_self known.1 kd (not_both (same_object known.0 k) (same_object_kind known.1 kd) none.0 here))))
-    (λ there. or_right (same_object known.0 k && good.same_kind (kind_seen known.1) (kind_seen kd)) (in_table objects (k, kind_seen kd)) (has_kind objects k kd none.1 there))
+    (and_from (same_object known.0 k) (good.same_kind (kind_seen known.1) (kind_seen kd)) here
+    (kind_self known.1 kd (not_both (same_object known.0 k) (same_object_kind known.1 kd) none.0 here))))
+    (λ there. or_right (same_object known.0 k && good.same_kind (kind_seen known.1) (kind_seen kd))
+    (in_table objects (k, kind_seen kd)) (has_kind objects k kd none.1 there))
 
-table_kept : (objects : List (Key × Kind)) (entry : Key × Kind) (os : List (Key × ObjectKind)) → list_all (in_table objects) os ≡ true → list_all (in_table (objects ++ entry ∷ [])) os ≡ true
+table_kept : (objects : List (Key × Kind)) (entry : Key × Kind) (os : List (Key × ObjectKind)) →
+    list_all (in_table objects) os ≡ true → list_all (in_table (objects ++ entry ∷ [])) os ≡ true
 table_kept objects entry [] h = refl
 table_kept objects entry (o ∷ os) h =
     let parts = and_parts (in_table objects o) (list_all (in_table objects) os) h in
     and_from (in_table (objects ++ entry ∷ []) o) (list_all (in_table (objects ++ entry ∷ [])) os)
-    (list_any-append (λ known. same_object known.0 o.0 && good.same_kind (kind_seen known.1) o.1) objects (entry ∷ []) ∙ or_left (in_table objects o) _ parts.0)
+    (list_any-append (λ known. same_object known.0 o.0 && good.same_kind (kind_seen known.1) o.1) objects (entry ∷ [])
+    ∙ or_left (in_table objects o) _ parts.0)
     (table_kept objects entry os parts.1)
 
 table_new : (objects : List (Key × Kind)) (k : Key) (kd : Kind) → in_table (objects ++ (k, kd) ∷ []) (k, kind_seen kd) ≡ true
 table_new objects k kd =
     list_any-append (λ known. same_object known.0 k && good.same_kind (kind_seen known.1) (kind_seen kd)) objects ((k, kd) ∷ [])
-    ∙ or_right (in_table objects (k, kind_seen kd)) _ (or_left (same_object k k && good.same_kind (kind_seen kd) (kind_seen kd)) false (and_from (same_object k k) _ (same_self k) (kind_seen-self kd)))
+    ∙ or_right (in_table objects (k, kind_seen kd)) _
+    (or_left (same_object k k && good.same_kind (kind_seen kd) (kind_seen kd)) false
+    (and_from (same_object k k) _ (same_self k) (kind_seen-self kd)))
 
 -- a command on an object that is none of another kind, with the table as it is, and with the object added
-pub objects-known : (objects : List (Key × Kind)) (sessions : List Session) (s : Session) (x : Item) (k : Key) (kd : Kind) → ObjectsOf objects sessions s → object_of x ≡ Some (k, kind_seen kd)
-    → is_other objects k kd ≡ false → has_object objects k ≡ true → ObjectsOf objects sessions (record s { commands = s.commands ++ x ∷ [] })
+pub objects-known : (objects : List (Key × Kind)) (sessions : List Session) (s : Session) (x : Item) (k : Key) (kd : Kind) →
+    ObjectsOf objects sessions s → object_of x ≡ Some (k, kind_seen kd)
+    → is_other objects k kd ≡ false → has_object objects k ≡ true →
+    ObjectsOf objects sessions (record s { commands = s.commands ++ x ∷ [] })
 objects-known objects sessions s x k kd h e o known =
-    let more : objects_in sessions (record s { commands = s.commands ++ x ∷ [] }) ≡ objects_in sessions s ++ (k, kind_seen kd) ∷ [] = objects-pushed sessions s x ∙ (rw e refl) in
+    let more : objects_in sessions (record s { commands = s.commands ++ x ∷ [] }) ≡ objects_in sessions s ++ (k, kind_seen kd)
+    ∷ [] = objects-pushed sessions s x ∙ (rw e refl) in
     record {
-      agree = rw more (kinds-pushed (objects_in sessions s) (k, kind_seen kd) h.agree (all_agree objects k kd (objects_in sessions s) o h.kept));
-      kept = rw more (pushed_all (in_table objects) (objects_in sessions s) (k, kind_seen kd) h.kept (has_kind objects k kd o known));
+      agree = rw more (kinds-pushed (objects_in sessions s) (k, kind_seen kd) h.agree
+          (all_agree objects k kd (objects_in sessions s) o h.kept));
+      kept = rw more (pushed_all (in_table objects) (objects_in sessions s) (k, kind_seen kd) h.kept
+          (has_kind objects k kd o known));
     }
 
-pub objects-new : (objects : List (Key × Kind)) (sessions : List Session) (s : Session) (x : Item) (k : Key) (kd : Kind) → ObjectsOf objects sessions s → object_of x ≡ Some (k, kind_seen kd)
-    → is_other objects k kd ≡ false → ObjectsOf (objects ++ (k, kd) ∷ []) sessions (record s { commands = s.commands ++ x ∷ [] })
+pub objects-new : (objects : List (Key × Kind)) (sessions : List Session) (s : Session) (x : Item) (k : Key) (kd : Kind) →
+    ObjectsOf objects sessions s → object_of x ≡ Some (k, kind_seen kd)
+    → is_other objects k kd ≡ false →
+    ObjectsOf (objects ++ (k, kd) ∷ []) sessions (record s { commands = s.commands ++ x ∷ [] })
 objects-new objects sessions s x k kd h e o =
-    let more : objects_in sessions (record s { commands = s.commands ++ x ∷ [] }) ≡ objects_in sessions s ++ (k, kind_seen kd) ∷ [] = objects-pushed sessions s x ∙ (rw e refl) in
+    let more : objects_in sessions (record s { commands = s.commands ++ x ∷ [] }) ≡ objects_in sessions s ++ (k, kind_seen kd)
+    ∷ [] = objects-pushed sessions s x ∙ (rw e refl) in
     record {
-      agree = rw more (kinds-pushed (objects_in sessions s) (k, kind_seen kd) h.agree (all_agree objects k kd (objects_in sessions s) o h.kept));
-      kept = rw more (pushed_all (in_table (objects ++ (k, kd) ∷ [])) (objects_in sessions s) (k, kind_seen kd) (table_kept objects (k, kd) (objects_in sessions s) h.kept) (table_new objects k kd));
+      agree = rw more (kinds-pushed (objects_in sessions s) (k, kind_seen kd) h.agree
+          (all_agree objects k kd (objects_in sessions s) o h.kept));
+      kept = rw more (pushed_all (in_table (objects ++ (k, kd) ∷ [])) (objects_in sessions s) (k, kind_seen kd)
+          (table_kept objects (k, kd) (objects_in sessions s) h.kept) (table_new objects k kd));
     }

@@ -52,25 +52,30 @@ silent-key : (f : ℕ) (v : Verb) (rest : List (List ℕ)) → Holds Silent (key
 silent-key f v rest = any_then Silent (only_word rest) _ (λ w. any_then Silent (key_words f w) _ (λ k. refl))
 
 silent-put : (f : ℕ) (rest : List (List ℕ)) → Holds Silent (key_value_line f rest)
-silent-put f rest = any_then Silent (two_words rest) _ (λ w. any_then Silent (key_words f w.0) _ (λ k. any_then Silent (value_of_word w.1) _ (λ v. refl)))
+silent-put f rest = any_then Silent (two_words rest) _
+    (λ w. any_then Silent (key_words f w.0) _ (λ k. any_then Silent (value_of_word w.1) _ (λ v. refl)))
 
 silent-add : (f : ℕ) (rest : List (List ℕ)) → Holds Silent (key_integer_line f rest)
-silent-add f rest = any_then Silent (two_words rest) _ (λ w. any_then Silent (key_words f w.0) _ (λ k. any_then Silent (integer w.1) _ (λ v. refl)))
+silent-add f rest = any_then Silent (two_words rest) _
+    (λ w. any_then Silent (key_words f w.0) _ (λ k. any_then Silent (integer w.1) _ (λ v. refl)))
 
 silent-object : (v : Verb) (rest : List (List ℕ)) → Holds Silent (object_line v rest)
 silent-object v rest = any_then Silent (only_word rest) _ (λ w. any_then Silent (object_words w) _ (λ k. refl))
 
 silent-offer : (rest : List (List ℕ)) → Holds Silent (object_value_line rest)
-silent-offer rest = any_then Silent (two_words rest) _ (λ w. any_then Silent (object_words w.0) _ (λ k. any_then Silent (value_of_word w.1) _ (λ v. refl)))
+silent-offer rest = any_then Silent (two_words rest) _
+    (λ w. any_then Silent (object_words w.0) _ (λ k. any_then Silent (value_of_word w.1) _ (λ v. refl)))
 
 silent-incr : (rest : List (List ℕ)) → Holds Silent (object_integer_line rest)
-silent-incr rest = any_then Silent (two_words rest) _ (λ w. any_then Silent (object_words w.0) _ (λ k. any_then Silent (integer w.1) _ (λ v. refl)))
+silent-incr rest = any_then Silent (two_words rest) _
+    (λ w. any_then Silent (object_words w.0) _ (λ k. any_then Silent (integer w.1) _ (λ v. refl)))
 
 silent-setting : (s : _) (rest : List (List ℕ)) → Holds Silent (setting_line s rest)
 silent-setting s rest = any_then Silent (only_word rest) _ (λ w. any_then Silent (number_of_word w) _ (λ n. refl))
 
 -- the same command of both formats
-same_meant : (f g : ℕ) (k : Keyword) (rest : List (List ℕ)) → named_by (plan_line f rest) ≡ named_by (plan_line g rest) → named_by (meant f k rest) ≡ named_by (meant g k rest)
+same_meant : (f g : ℕ) (k : Keyword) (rest : List (List ℕ)) → named_by (plan_line f rest) ≡ named_by (plan_line g rest) →
+    named_by (meant f k rest) ≡ named_by (meant g k rest)
 same_meant f g keyword.Plan rest p = p
 same_meant f g keyword.Get rest p = silent_by _ (silent-key f _ rest) ∙ sym (silent_by _ (silent-key g _ rest))
 same_meant f g keyword.Put rest p = silent_by _ (silent-put f rest) ∙ sym (silent_by _ (silent-put g rest))
@@ -97,28 +102,40 @@ quiet-second f word rest =
     (λ e. cond_both (bytes_eq word (codes "offer")) _ _ (Quiet f rest) (λ e. silent_by _ (silent-offer rest))
     (λ e. cond_both (bytes_eq word (codes "poll")) _ _ (Quiet f rest) (λ e. silent_by _ (silent-object _ rest)) (λ e. refl))))))
 
-quiet-own : (f : ℕ) (word : List ℕ) (rest : List (List ℕ)) → Quiet f rest (if f == 2 then second_keyword word else first_keyword word)
-quiet-own f word rest = cond_both (f == 2) (second_keyword word) (first_keyword word) (Quiet f rest) (λ e. quiet-second f word rest) (λ e. quiet-first f word rest)
+quiet-own : (f : ℕ) (word : List ℕ) (rest : List (List ℕ)) →
+    Quiet f rest (if f == 2 then second_keyword word else first_keyword word)
+quiet-own f word rest = cond_both (f == 2) (second_keyword word) (first_keyword word) (Quiet f rest)
+    (λ e. quiet-second f word rest) (λ e. quiet-first f word rest)
 
-same_known : (f g : ℕ) (shared own more : Option Keyword) (rest : List (List ℕ)) → named_by (plan_line f rest) ≡ named_by (plan_line g rest)
-    → named_by (known_line f own rest) ≡ named_by (known_line g more rest) → named_by (known_line f (or_else shared own) rest) ≡ named_by (known_line g (or_else shared more) rest)
+same_known : (f g : ℕ) (shared own more : Option Keyword) (rest : List (List ℕ)) →
+    named_by (plan_line f rest) ≡ named_by (plan_line g rest)
+    → named_by (known_line f own rest) ≡ named_by (known_line g more rest) → named_by (known_line f (or_else shared own) rest)
+    ≡ named_by (known_line g (or_else shared more) rest)
 same_known f g (Some k) own more rest p h = same_meant f g k rest p
 same_known f g None own more rest p h = h
 
 -- plan lines
 
-same_then : {A : Type 0} (r : Result A Cause) (x y : A → Result Line Cause) → ((a : A) → named_by (x a) ≡ named_by (y a)) → named_by (r >>= x) ≡ named_by (r >>= y)
+same_then : {A : Type 0} (r : Result A Cause) (x y : A → Result Line Cause) → ((a : A) → named_by (x a) ≡ named_by (y a)) →
+    named_by (r >>= x) ≡ named_by (r >>= y)
 same_then (Ok a) x y h = h a
 same_then (Err e) x y h = refl
 
-quiet-step : (moment : ℕ) (rest : List (List ℕ)) (p q : Bool) → named_by (step_or_syntax moment (if p then Some step.Start else (if q then Some step.Stop else None)) rest) ≡ []
+quiet-step : (moment : ℕ) (rest : List (List ℕ)) (p q : Bool) →
+    named_by (step_or_syntax moment (if p then Some step.Start else (if q then Some step.Stop else None)) rest) ≡ []
 quiet-step moment rest true q = silent_by (start_step moment rest) (any_then Silent (cache_words rest) _ (λ w. refl))
-quiet-step moment rest false true = silent_by (stop_step moment rest) (any_then Silent (only_word rest) _ (λ w. any_then Silent (name w) _ (λ n. refl)))
+quiet-step moment rest false true =
+    silent_by (stop_step moment rest) (any_then Silent (only_word rest) _ (λ w. any_then Silent (name w) _ (λ n. refl)))
 quiet-step moment rest false false = refl
 
-same_step : (moment : ℕ) (rest : List (List ℕ)) (a b c d : Bool) (x y : Option StepKeyword) → named_by (step_or_syntax moment x rest) ≡ named_by (step_or_syntax moment y rest)
-    → named_by (step_or_syntax moment (if a then Some step.Join else (if b then Some step.Lose else (if c then Some step.Hold else (if d then Some step.Release else x)))) rest)
-    ≡ named_by (step_or_syntax moment (if a then Some step.Join else (if b then Some step.Lose else (if c then Some step.Hold else (if d then Some step.Release else y)))) rest)
+same_step : (moment : ℕ) (rest : List (List ℕ)) (a b c d : Bool) (x y : Option StepKeyword) →
+    named_by (step_or_syntax moment x rest) ≡ named_by (step_or_syntax moment y rest)
+    → named_by (step_or_syntax moment
+    (if a then Some step.Join else
+    (if b then Some step.Lose else (if c then Some step.Hold else (if d then Some step.Release else x)))) rest)
+    ≡ named_by (step_or_syntax moment
+    (if a then Some step.Join else
+    (if b then Some step.Lose else (if c then Some step.Hold else (if d then Some step.Release else y)))) rest)
 same_step moment rest true b c d x y h = refl
 same_step moment rest false true c d x y h = refl
 same_step moment rest false false true d x y h = refl
@@ -129,8 +146,10 @@ same_plan : (f g : ℕ) (rest : List (List ℕ)) → named_by (plan_line f rest)
 same_plan f g [] = refl
 same_plan f g (first ∷ []) = refl
 same_plan f g (first ∷ second ∷ rest) =
-    same_then (number_of_word first) (λ moment. step_or_syntax moment (step_keyword f second) rest) (λ moment. step_or_syntax moment (step_keyword g second) rest)
-    (λ moment. same_step moment rest (bytes_eq second (codes "join")) (bytes_eq second (codes "lose")) (bytes_eq second (codes "hold")) (bytes_eq second (codes "release")) _ _
+    same_then (number_of_word first) (λ moment. step_or_syntax moment (step_keyword f second) rest)
+    (λ moment. step_or_syntax moment (step_keyword g second) rest)
+    (λ moment. same_step moment rest (bytes_eq second (codes "join")) (bytes_eq second (codes "lose"))
+    (bytes_eq second (codes "hold")) (bytes_eq second (codes "release")) _ _
     (quiet-step moment rest ((f == 2) && bytes_eq second (codes "start")) ((f == 2) && bytes_eq second (codes "stop"))
     ∙ sym (quiet-step moment rest ((g == 2) && bytes_eq second (codes "start")) ((g == 2) && bytes_eq second (codes "stop")))))
 
@@ -143,7 +162,8 @@ same_meaning f g (w ∷ rest) =
     (same_known f g (command_keyword w) _ _ rest (same_plan f g rest) (quiet-own f w rest ∙ sym (quiet-own g w rest)))
 
 pick : (a b : Bool) (x y : Result Line Cause) → named_by x ≡ named_by y
-    → named_by (if a then Err NotUtf8 else (if b then Ok line.Blank else x)) ≡ named_by (if a then Err NotUtf8 else (if b then Ok line.Blank else y))
+    → named_by (if a then Err NotUtf8 else (if b then Ok line.Blank else x)) ≡ named_by
+    (if a then Err NotUtf8 else (if b then Ok line.Blank else y))
 pick true b x y h = refl
 pick false true x y h = refl
 pick false false x y h = h

@@ -29,18 +29,21 @@ module _ {K X : Type 0} (eq : K → K → Bool) (laws : IsEquivalence eq) where
       by false = refl
 
   -- no key is the one that is looked for, where it is equal to one that is in no other place
-  none_more : (es : List (K × X)) (k x : K) (test : X → Bool) → eq k x ≡ true → AllByRecursion (λ y. eq x y ≡ false) (keys_of es)
+  none_more : (es : List (K × X)) (k x : K) (test : X → Bool) → eq k x ≡ true →
+      AllByRecursion (λ y. eq x y ≡ false) (keys_of es)
       → list_any (λ e. eq e.0 k && test e.1) es ≡ false
   none_more [] k x test same apart = refl
   none_more (e ∷ es) k x test same apart =
       rw (laws.symm e.0 k, laws.congr k x e.0 same, apart.0) (none_more es k x test same apart.1)
 
   -- a known one passes the test, where the one that is found passes it
-  pub any_passing : (es : List (K × X)) (k : K) (test : X → Bool) → IsDistinct eq (keys_of es) → list_any (λ e. eq e.0 k && test e.1) es ≡ passes test (lookup (eq k) es)
+  pub any_passing : (es : List (K × X)) (k : K) (test : X → Bool) → IsDistinct eq (keys_of es) →
+      list_any (λ e. eq e.0 k && test e.1) es ≡ passes test (lookup (eq k) es)
   unfolding IsDistinct
   any_passing [] k test distinct = refl
   any_passing (e ∷ es) k test distinct =
-      elim (eq k e.0) as (λ b. eq k e.0 ≡ b → (eq e.0 k && test e.1 || list_any (λ e. eq e.0 k && test e.1) es) ≡ passes test (cond b (Some e.1) (lookup (eq k) es))) [
+      elim (eq k e.0) as (λ b. eq k e.0 ≡ b → (eq e.0 k && test e.1 || list_any (λ e. eq e.0 k && test e.1) es) ≡ passes test
+      (cond b (Some e.1) (lookup (eq k) es))) [
         | true ↦ λ same. rw (laws.symm e.0 k, same, none_more es k e.0 test same distinct.0) (or_false (test e.1))
         | false ↦ λ other. rw (laws.symm e.0 k, other) (any_passing es k test distinct.1)
       ] refl
@@ -50,26 +53,31 @@ module _ {K X : Type 0} (eq : K → K → Bool) (laws : IsEquivalence eq) where
       or_false false = refl
 
   -- a new key goes last
-  pub inserted_last : (es : List (K × X)) (k : K) (x : X) → is_some (lookup (eq k) es) ≡ false → insert_entry eq es k x ≡ es ++ (k, x) ∷ []
+  pub inserted_last : (es : List (K × X)) (k : K) (x : X) → is_some (lookup (eq k) es) ≡ false →
+      insert_entry eq es k x ≡ es ++ (k, x) ∷ []
   inserted_last [] k x new = refl
   inserted_last (e ∷ es) k x new =
-      elim (eq k e.0) as (λ b. is_some (cond b (Some e.1) (lookup (eq k) es)) ≡ false → (if b then (e.0, x) ∷ es else e ∷ insert_entry eq es k x) ≡ e ∷ (es ++ (k, x) ∷ [])) [
+      elim (eq k e.0) as (λ b. is_some (cond b (Some e.1) (lookup (eq k) es)) ≡ false →
+      (if b then (e.0, x) ∷ es else e ∷ insert_entry eq es k x) ≡ e ∷ (es ++ (k, x) ∷ [])) [
         | true ↦ λ found. absurd (true≢false found)
         | false ↦ λ new. ap (λ more. e ∷ more) (inserted_last es k x new)
       ] new
 
 -- an object that is found is known
-pub found_before : (objects : List (Key × Kind)) (object : Key) (kind : Kind) → is_some (lookup (same_key object) objects) ≡ true
+pub found_before : (objects : List (Key × Kind)) (object : Key) (kind : Kind) → is_some (lookup (same_key object) objects)
+    ≡ true
     → objects ≡ (if has_object objects object then objects else objects ++ (object, kind) ∷ [])
 found_before objects object kind found = rw (any_key same_key same_key_equiv objects object, found) refl
 
 -- one that is not found is new
 pub added_last : (objects : List (Key × Kind)) (object : Key) (kind : Kind) → is_some (lookup (same_key object) objects) ≡ false
-    → insert_entry same_key objects object kind ≡ (if has_object objects object then objects else objects ++ (object, kind) ∷ [])
+    → insert_entry same_key objects object kind ≡ (if has_object objects object then objects else objects ++ (object, kind)
+    ∷ [])
 added_last objects object kind new =
     rw (any_key same_key same_key_equiv objects object, new) (inserted_last same_key same_key_equiv objects object kind new)
 
 -- an object is known to be of another kind where the kind that is found is another
 pub other_kind : (objects : List (Key × Kind)) (object : Key) (kind : Kind) → IsDistinct same_key (keys_of objects)
     → is_other objects object kind ≡ passes (λ known. not (same_object_kind known kind)) (lookup (same_key object) objects)
-other_kind objects object kind distinct = any_passing same_key same_key_equiv objects object (λ known. not (same_object_kind known kind)) distinct
+other_kind objects object kind distinct = any_passing same_key same_key_equiv objects object
+    (λ known. not (same_object_kind known kind)) distinct

@@ -31,27 +31,33 @@ digits_in_front (b ∷ bs) (suc i) h =
     (omega (arith, d.0, d.1, d.2), digits_in_front bs i parts.1)
 
 -- less than seven digits spell less than a million
-pub value_small : (bs : List ℕ) (i : ℕ) → length bs ≤ 7 → list_all is_digit bs ≡ true → i < length bs → digits_value 10 (take i bs) < 1000000
+pub value_small : (bs : List ℕ) (i : ℕ) → length bs ≤ 7 → list_all is_digit bs ≡ true → i < length bs →
+    digits_value 10 (take i bs) < 1000000
 value_small bs i few h l =
-    let below : digits_value 10 (take i bs) < 10 ^ length (take i bs) = digits_value-lt 10 (take i bs) (digits_in_front bs i h) in
+    let below : digits_value 10 (take i bs) < 10 ^ length (take i bs) =
+    digits_value-lt 10 (take i bs) (digits_in_front bs i h) in
     let long : length (take i bs) ≤ 6 = omega (arith, length-take-le i bs (omega arith)) in
     let most : 10 ^ length (take i bs) ≤ 10 ^ 6 = pow-le-pow_right (lit< tt) long in
     omega (arith, below, most)
 
 -- less than 19 digits spell less than a million of millions of millions
-pub value_small_long : (bs : List ℕ) (i : ℕ) → length bs ≤ 19 → list_all is_digit bs ≡ true → i < length bs → digits_value 10 (take i bs) < 1000000000000000000
+pub value_small_long : (bs : List ℕ) (i : ℕ) → length bs ≤ 19 → list_all is_digit bs ≡ true → i < length bs →
+    digits_value 10 (take i bs) < 1000000000000000000
 value_small_long bs i few h l =
-    let below : digits_value 10 (take i bs) < 10 ^ length (take i bs) = digits_value-lt 10 (take i bs) (digits_in_front bs i h) in
+    let below : digits_value 10 (take i bs) < 10 ^ length (take i bs) =
+    digits_value-lt 10 (take i bs) (digits_in_front bs i h) in
     let long : length (take i bs) ≤ 18 = omega (arith, length-take-le i bs (omega arith)) in
     let most : 10 ^ length (take i bs) ≤ 10 ^ 18 = pow-le-pow_right (lit< tt) long in
     omega (arith, below, most)
 
 -- one more digit
-pub value_more : (bs : List ℕ) (i : ℕ) → list_all is_digit bs ≡ true → i < length bs → digits_value 10 (take (i + 1) bs) ≡ digits_value 10 (take i bs) * 10 + (get_or bs i 0 - 48)
+pub value_more : (bs : List ℕ) (i : ℕ) → list_all is_digit bs ≡ true → i < length bs →
+    digits_value 10 (take (i + 1) bs) ≡ digits_value 10 (take i bs) * 10 + (get_or bs i 0 - 48)
 value_more bs i h l =
     let d = digit_is (get_or bs i 0) (digit_at bs i h l) in
     rw (digits_value_more 10 bs i l, d.2) refl
 
-pub digit_small : (bs : List ℕ) (i : ℕ) → list_all is_digit bs ≡ true → i < length bs → (48 ≤ get_or bs i 0) × (get_or bs i 0 < 58)
+pub digit_small : (bs : List ℕ) (i : ℕ) → list_all is_digit bs ≡ true → i < length bs → (48 ≤ get_or bs i 0)
+    × (get_or bs i 0 < 58)
 digit_small bs i h l =
     let d = digit_is (get_or bs i 0) (digit_at bs i h l) in (d.0, d.1)

@@ -77,7 +77,8 @@ with_setting draft setting n = do
 -- the partitions of all caches and so many more, where one more cache has room
 abbrev pub total_with : Draft → ℕ → Result ℕ Cause
 total_with draft parts =
-    if nat_lt (length draft.caches) CACHES && nat_le (draft.partitions + parts) PARTITIONS then Ok (draft.partitions + parts) else Err (Limit what.Caches)
+    if nat_lt (length draft.caches) CACHES && nat_le (draft.partitions + parts) PARTITIONS then Ok (draft.partitions + parts)
+    else Err (Limit what.Caches)
 
 -- a cache, or a data cache
 abbrev pub with_cache : Draft → Bool → CacheWords → Result Draft Cause
@@ -142,12 +143,14 @@ with_start draft moment words = do
   _ ← rule (nat_lt (length draft.plan) STEPS) (Limit what.Steps)
   total ← total_with draft cache.parts
   _ ← rule (not (has_cache draft.caches cache.name)) DoubleName
-  Ok (draft_with_step (record draft { caches = draft.caches ++ cache ∷ []; partitions = total }) moment (step.Start (length draft.caches)))
+  Ok (draft_with_step (record draft { caches = draft.caches ++ cache ∷ []; partitions = total }) moment
+      (step.Start (length draft.caches)))
 
 -- a step that stops a cache
 abbrev pub with_stop : Draft → ℕ → Option (List ℕ) → Result Draft Cause
 with_stop draft moment name = do
-  _ ← rule (may_follow draft.place place.Plan && not (names_data_here draft.caches name) && not (names_first draft.caches name)) Syntax
+  _ ← rule (may_follow draft.place place.Plan && not (names_data_here draft.caches name)
+      && not (names_first draft.caches name)) Syntax
   _ ← rule (is_within 1 MOMENTS moment) (Limit what.Moment)
   called ← fit name what.Name
   _ ← rule (rises draft.plan moment) (Limit what.Moment)
@@ -170,7 +173,11 @@ with_session draft name node = do
 -- one more command of the session
 abbrev pub with_item : Draft → Item → Draft
 with_item draft item =
-    record draft { place = place_after draft.place item; session = record draft.session { commands = draft.session.commands ++ item ∷ [] } }
+    record draft {
+      place = place_after draft.place item;
+      session =
+          record draft.session { commands = draft.session.commands ++ item ∷ [] };
+    }
 
 abbrev pub has_room : Draft → Bool
 has_room draft = nat_lt (length draft.session.commands) COMMANDS
@@ -187,7 +194,8 @@ with_bare draft command = do
 -- names no data cache
 abbrev pub verb_stands : Draft → Option Kind → Option ℕ → KeyWords → Bool
 verb_stands draft (Some kind) place key =
-    is_outside draft.place && not (names_plain_here draft.caches key.cache) && agrees_with_known draft.objects place key.key kind
+    is_outside draft.place && not (names_plain_here draft.caches key.cache)
+    && agrees_with_known draft.objects place key.key kind
 verb_stands draft None place key = in_script draft.place && not (names_data_here draft.caches key.cache)
 
 -- the first command that names an object says what it is
@@ -240,4 +248,11 @@ is_whole_draft draft = places.is_outside_session draft.place && has_server draft
 abbrev pub finished : Draft → Result Scenario Cause
 finished draft = do
   _ ← rule (is_whole_draft draft) Missing
-  Ok (record { format = draft.format; caches = draft.caches; nodes = draft.nodes; plan = draft.plan; sessions = draft.sessions })
+  Ok (record {
+    format = draft.format;
+    caches = draft.caches;
+    nodes = draft.nodes;
+    plan = draft.plan;
+    sessions =
+        draft.sessions;
+  })

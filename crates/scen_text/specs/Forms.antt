@@ -30,7 +30,8 @@ role word =
 
 abbrev pub mode : List ℕ → Result Mode Cause
 mode word =
-    if bytes_eq word (codes "pessimistic") then Ok Pessimistic else (if bytes_eq word (codes "optimistic") then Ok Optimistic else Err Syntax)
+    if bytes_eq word (codes "pessimistic") then Ok Pessimistic else
+    (if bytes_eq word (codes "optimistic") then Ok Optimistic else Err Syntax)
 
 -- `NAME/K` in format 2; in format 1 `K`, of the cache named `default`
 abbrev pub key_words : ℕ → List ℕ → Result KeyWords Cause

@@ -51,7 +51,8 @@ or_else None other = other
 -- the keyword that a word is in a format
 abbrev pub keyword_of : ℕ → List ℕ → Option Keyword
 keyword_of format word =
-    or_else (shared_keyword word) (or_else (command_keyword word) (if format == 2 then second_keyword word else first_keyword word))
+    or_else (shared_keyword word)
+    (or_else (command_keyword word) (if format == 2 then second_keyword word else first_keyword word))
 
 -- the step that a word is in a format: caches are started and stopped in format 2 alone
 abbrev pub step_keyword : ℕ → List ℕ → Option StepKeyword

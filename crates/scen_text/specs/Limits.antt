@@ -46,7 +46,14 @@ setting_what setting.Near = what.Near
 -- the one cache of format 1
 abbrev pub default_cache : Settings → Cache
 default_cache settings =
-    record { name = codes "default"; parts = settings.parts; backups = settings.backups; near = settings.near; first = true; «data» = false }
+    record {
+      name = codes "default";
+      parts = settings.parts;
+      backups = settings.backups;
+      near = settings.near;
+      first = true;
+      «data» = false;
+    }
 
 abbrev pub cache_fits : CacheWords → Bool
 cache_fits words = is_within 1 PARTITIONS words.parts && nat_le words.backups BACKUPS && nat_le words.near NEAR_ENTRIES
@@ -56,7 +63,15 @@ abbrev pub cache_of : What → Bool → Bool → CacheWords → Result Cache Cau
 cache_of w first is_data words = do
   called ← fit words.name what.Name
   _ ← rule (cache_fits words) (Limit w)
-  Ok (record { name = called; parts = words.parts; backups = words.backups; near = words.near; first = first; «data» = is_data })
+  Ok (record {
+    name = called;
+    parts = words.parts;
+    backups = words.backups;
+    near = words.near;
+    first = first;
+    «data» =
+        is_data;
+  })
 
 -- the numbers of a step are those that nodes may have
 abbrev pub nodes_fit : Step → Bool

@@ -50,7 +50,8 @@ number_of_word word = if is_number_word word then Ok (digits_value 10 word) else
 -- letters and digits, at least one, at most 16 of them to fit
 abbrev pub name : List ℕ → Result (Option (List ℕ)) Cause
 name word =
-    if (length word == 0) || not (list_all is_name_byte word) then Err Syntax else (if nat_le (length word) NAME_BYTES then Ok (Some word) else Ok None)
+    if (length word == 0) || not (list_all is_name_byte word) then Err Syntax else
+    (if nat_le (length word) NAME_BYTES then Ok (Some word) else Ok None)
 
 -- the name of a data object, in cache 0 for now
 abbrev pub object : List ℕ → Result (Option Key) Cause
@@ -77,7 +78,8 @@ is_slash byte = byte == 47
 -- what stands before the first slash of a word, and what stands behind it
 abbrev pub at_slash : List ℕ → Result (List ℕ × List ℕ) Cause
 at_slash word =
-    if nat_lt (position_or_len is_slash word) (length word) then Ok (before_first is_slash word, after_first is_slash word) else Err Syntax
+    if nat_lt (position_or_len is_slash word) (length word) then Ok (before_first is_slash word, after_first is_slash word)
+    else Err Syntax
 
 -- digits with no 0 in front, at most the 19 that the greatest integer has
 abbrev pub is_natural_word : List ℕ → Bool
@@ -87,7 +89,8 @@ is_natural_word (first ∷ more) = not (first == 48) && nat_le (length (first �
 -- the number from 1 to `most` that they spell
 abbrev pub natural_of_word : ℕ → List ℕ → Result ℕ Cause
 natural_of_word most word =
-    if not (is_natural_word word) then Err Syntax else (if nat_le (digits_value 10 word) most then Ok (digits_value 10 word) else Err Syntax)
+    if not (is_natural_word word) then Err Syntax else
+    (if nat_le (digits_value 10 word) most then Ok (digits_value 10 word) else Err Syntax)
 
 -- as far below 0 as the number is above
 abbrev pub negated : ℕ → ℤ

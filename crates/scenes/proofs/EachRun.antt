@@ -27,11 +27,13 @@ module _ (events : ℕ) (short : is_short_run events ≡ true) (j : Journal) (ru
   few = let count = run.has_events in grind (arith, nat_tests, short, count)
 
   pub test_holds : (test : Scene → Bool) → IsKeptTest test → test (last_scene j) ≡ true
-  test_holds test kept = legal_holds (λ (sc : Scene). test sc ≡ true) kept.by_events kept.at_opening j run.is_good few run.is_legal
+  test_holds test kept = legal_holds (λ (sc : Scene). test sc ≡ true) kept.by_events kept.at_opening j run.is_good few
+      run.is_legal
 
   pub view_test_holds : (test : FlightView → Bool) → IsKeptViewTest test → test (flight_view (last_scene j)) ≡ true
   view_test_holds test kept =
-      legal_holds (λ (sc : Scene). test (flight_view sc) ≡ true) (views_kept (λ (v : FlightView). test v ≡ true) kept.by_events) kept.at_opening j run.is_good few run.is_legal
+      legal_holds (λ (sc : Scene). test (flight_view sc) ≡ true)
+      (views_kept (λ (v : FlightView). test v ≡ true) kept.by_events) kept.at_opening j run.is_good few run.is_legal
 
   pub sound_holds : IsSound (last_scene j)
   sound_holds = (inv_holds Base base_kept j.scenario j.groups run.is_good few (opening_base j.scenario) run.is_legal.steps).0
@@ -44,7 +46,9 @@ module _ (events : ℕ) (short : is_short_run events ≡ true) (j : Journal) (ru
       let whole : gs ++ more ≡ j.groups = take-append-drop k j.groups in
       let frozen = frozen_after s gs more run.is_good (subst (λ (xs : List Group). length xs < 2 ^ 62) (sym whole) few)
       (subst (λ (xs : List Group). AreSteps (opening s) xs) (sym whole) run.is_legal.steps) n lost in
-      let at_end = subst (λ (xs : List Group). StaysLost n (scene_at j k) (scene_of s (noted s xs) (world_after (opening s) xs))) whole (record { lost = frozen.lost; same_state = frozen.same }) in
+      let at_end = subst (λ (xs : List Group). StaysLost n (scene_at j k)
+      (scene_of s (noted s xs) (world_after (opening s) xs))) whole
+      (record { lost = frozen.lost; same_state = frozen.same }) in
       at_end
 
   pub directory_told : (last_scene j).directory.events ≡ topology_events j.scenario j.groups

@@ -62,37 +62,49 @@ full_same w w2 same full = λ a b at_a at_b.
 
 -- One link changed.
 
-on_link_lane : (b : Inbox) (from : NodeId) (f : Link → Link) (x : NodeId) → is_some (link_of (on_link b from f (link_of b from)) x) ≡ is_some (link_of b x)
+on_link_lane : (b : Inbox) (from : NodeId) (f : Link → Link) (x : NodeId) →
+    is_some (link_of (on_link b from f (link_of b from)) x) ≡ is_some (link_of b x)
 on_link_lane b from f x = by (same_node from x) refl
   where
     here : (r : Option Link) → link_of b from ≡ r → is_some (link_of (on_link b from f (link_of b from)) from) ≡ is_some r
     here None none = ap (λ (r : Option Link). is_some (link_of (on_link b from f r) from)) none ∙ ap is_some none
-    here (Some l) some = ap (λ (r : Option Link). is_some (link_of (on_link b from f r) from)) some ∙ ap is_some (laws.at_put_same node_cmp node_total b.links from (f l))
+    here (Some l) some = ap (λ (r : Option Link). is_some (link_of (on_link b from f r) from)) some
+        ∙ ap is_some (laws.at_put_same node_cmp node_total b.links from (f l))
 
     by : (c : Bool) → same_node from x ≡ c → is_some (link_of (on_link b from f (link_of b from)) x) ≡ is_some (link_of b x)
-    by true same = subst (λ (y : NodeId). is_some (link_of (on_link b from f (link_of b from)) y) ≡ is_some (link_of b y)) (same_node_true from x same) (here (link_of b from) refl)
+    by true same = subst (λ (y : NodeId). is_some (link_of (on_link b from f (link_of b from)) y) ≡ is_some (link_of b y))
+        (same_node_true from x same) (here (link_of b from) refl)
     by false other = ap is_some (on_link_other b from f x other)
 
-pushed_lane : (b : Inbox) (from : NodeId) (m : Message) (x : NodeId) → is_some (link_of (inbox_after_push b from m) x) ≡ is_some (link_of b x)
+pushed_lane : (b : Inbox) (from : NodeId) (m : Message) (x : NodeId) → is_some (link_of (inbox_after_push b from m) x)
+    ≡ is_some (link_of b x)
 pushed_lane b from m x = by b.closed
   where
-    by : (c : Bool) → is_some (link_of (if c then b else on_link b from (λ (l : Link). record l { messages = l.messages ++ m ∷ [] }) (link_of b from)) x) ≡ is_some (link_of b x)
+    by : (c : Bool) → is_some
+        (link_of (if c then b else on_link b from (λ (l : Link). record l { messages = l.messages ++ m ∷ [] })
+        (link_of b from)) x) ≡ is_some (link_of b x)
     by true = refl
     by false = on_link_lane b from (λ (l : Link). record l { messages = l.messages ++ m ∷ [] }) x
 
-each_lane : (b : Inbox) (ks : List NodeId) (x : NodeId) → is_some (link_of (without_messages_of_each b ks) x) ≡ is_some (link_of b x)
+each_lane : (b : Inbox) (ks : List NodeId) (x : NodeId) → is_some (link_of (without_messages_of_each b ks) x) ≡ is_some
+    (link_of b x)
 each_lane b [] x = refl
-each_lane b (k ∷ ks) x = each_lane (without_messages_of b k) ks x ∙ on_link_lane b k (λ (l : Link). record l { messages = [] }) x
+each_lane b (k ∷ ks) x = each_lane (without_messages_of b k) ks x
+    ∙ on_link_lane b k (λ (l : Link). record l { messages = [] }) x
 
-set_lane : (ins : List Inbox) (k : ℕ) (b b2 : Inbox) → slice_get ins k ≡ Some b → ((x : NodeId) → is_some (link_of b2 x) ≡ is_some (link_of b x)) → (j : ℕ) (x : NodeId) → lane_in (slice_get (slice_set ins k b2) j) x ≡ lane_in (slice_get ins j) x
+set_lane : (ins : List Inbox) (k : ℕ) (b b2 : Inbox) → slice_get ins k ≡ Some b →
+    ((x : NodeId) → is_some (link_of b2 x) ≡ is_some (link_of b x)) → (j : ℕ) (x : NodeId) →
+    lane_in (slice_get (slice_set ins k b2) j) x ≡ lane_in (slice_get ins j) x
 set_lane [] k b b2 is same j x = refl
 set_lane (z ∷ zs) zero b b2 is same zero x = same x ∙ ap (λ (y : Inbox). is_some (link_of y x)) (sym (some_is z b is))
 set_lane (z ∷ zs) zero b b2 is same (suc j) x = refl
 set_lane (z ∷ zs) (suc k) b b2 is same zero x = refl
 set_lane (z ∷ zs) (suc k) b b2 is same (suc j) x = set_lane zs k b b2 is same j x
 
-emptied_lane : (w : World) (id : NodeId) (j : ℕ) (x : NodeId) → lane_in (slice_get (inboxes_emptied id w.inboxes) j) x ≡ lane_in (slice_get w.inboxes j) x
-emptied_lane w id j x = ap (λ (o : Option Inbox). lane_in o x) (slice_get-map (λ (b : Inbox). without_messages_of b id) w.inboxes j) ∙ by (slice_get w.inboxes j)
+emptied_lane : (w : World) (id : NodeId) (j : ℕ) (x : NodeId) → lane_in (slice_get (inboxes_emptied id w.inboxes) j) x
+    ≡ lane_in (slice_get w.inboxes j) x
+emptied_lane w id j x = ap (λ (o : Option Inbox). lane_in o x)
+    (slice_get-map (λ (b : Inbox). without_messages_of b id) w.inboxes j) ∙ by (slice_get w.inboxes j)
   where
     by : (o : Option Inbox) → lane_in (option_map (λ (b : Inbox). without_messages_of b id) o) x ≡ lane_in o x
     by None = refl
@@ -105,14 +117,17 @@ same_itself w d = record { places = λ n. refl; boxes = λ j x. refl }
 
 module _ (w : World) where
   -- a part changes, with these inboxes
-  part_same : (ins : List Inbox) (d : Directory) (broken : Bool) (k : ℕ) (p q : Part) → slice_get w.parts k ≡ Some p → q.node.me ≡ p.node.me → ((j : ℕ) (x : NodeId) → lane_in (slice_get ins j) x ≡ lane_in (slice_get w.inboxes j) x)
+  part_same : (ins : List Inbox) (d : Directory) (broken : Bool) (k : ℕ) (p q : Part) → slice_get w.parts k ≡ Some p →
+      q.node.me ≡ p.node.me → ((j : ℕ) (x : NodeId) → lane_in (slice_get ins j) x ≡ lane_in (slice_get w.inboxes j) x)
       → Same w (record w { parts = slice_set w.parts k q; inboxes = ins; directory = d; broken = broken })
   part_same ins d broken k p q is me boxes = record {
-    places = λ n. same_place w (record w { parts = slice_set w.parts k q; inboxes = ins; directory = d; broken = broken }) (same_numbers w.parts k p q is me) n;
+    places = λ n. same_place w (record w { parts = slice_set w.parts k q; inboxes = ins; directory = d; broken = broken })
+        (same_numbers w.parts k p q is me) n;
     boxes = boxes;
   }
 
-  acted_same : (ins : List Inbox) (d : Directory) (k : ℕ) (p : Part) (act : Acted) → slice_get w.parts k ≡ Some p → act.state.me ≡ p.node.me → ((j : ℕ) (x : NodeId) → lane_in (slice_get ins j) x ≡ lane_in (slice_get w.inboxes j) x)
+  acted_same : (ins : List Inbox) (d : Directory) (k : ℕ) (p : Part) (act : Acted) → slice_get w.parts k ≡ Some p →
+      act.state.me ≡ p.node.me → ((j : ℕ) (x : NodeId) → lane_in (slice_get ins j) x ≡ lane_in (slice_get w.inboxes j) x)
       → Same w (outcome_of_act (record w { inboxes = ins; directory = d }) k p act).world
   acted_same ins d k p act is me boxes = part_same ins d w.broken k p (record { node = act.state; life = p.life }) is me boxes
 
@@ -122,53 +137,74 @@ module _ (w : World) where
   idle_same : Same w w
   idle_same = record { places = λ n. refl; boxes = λ j x. refl }
 
-  answer_same : (session : ℕ) (h : Option NodeId) → (let place = option_and_then (live_place w) h in Same w (answer_outcome w session place (part_on w place)).world)
+  answer_same : (session : ℕ) (h : Option NodeId) → (let place = option_and_then (live_place w) h in
+      Same w (answer_outcome w session place (part_on w place)).world)
   answer_same session None = idle_same
-  answer_same session (Some id) = at_live w id (λ r q. Same w (answer_outcome w session r q).world) idle_same (λ k. idle_same) (λ k p place is same alive. by k p is (may_answer p.node session))
+  answer_same session (Some id) = at_live w id (λ r q. Same w (answer_outcome w session r q).world) idle_same (λ k. idle_same)
+      (λ k p place is same alive. by k p is (may_answer p.node session))
     where
-      by : (k : ℕ) (p : Part) → slice_get w.parts k ≡ Some p → (c : Bool) → Same w (if c then outcome_of_act (with_directory w (with_answer_given w.directory)) k p (answer_act p.node session) else unchanged w).world
-      by k p is true = acted_same w.inboxes (with_answer_given w.directory) k p (answer_act p.node session) is (acts.answers p.node session).0.same_me there
+      by : (k : ℕ) (p : Part) → slice_get w.parts k ≡ Some p → (c : Bool) →
+          Same w (if c then outcome_of_act (with_directory w (with_answer_given w.directory)) k p (answer_act p.node session)
+          else unchanged w).world
+      by k p is true = acted_same w.inboxes (with_answer_given w.directory) k p (answer_act p.node session) is
+          (acts.answers p.node session).0.same_me there
       by k p is false = idle_same
 
-  call_same : (session : ℕ) (h : Option NodeId) → (let place = option_and_then (live_place w) h in Same w (call_outcome w session place (part_on w place)).world)
+  call_same : (session : ℕ) (h : Option NodeId) → (let place = option_and_then (live_place w) h in
+      Same w (call_outcome w session place (part_on w place)).world)
   call_same session None = idle_same
   call_same session (Some id) = at_live w id (λ r q. Same w (call_outcome w session r q).world) idle_same (λ k. idle_same)
-      (λ k p place is same alive. acted_same w.inboxes w.directory k p (call_act p.node session) is (acts.calls p.node session).0.same_me there)
+      (λ k p place is same alive. acted_same w.inboxes w.directory k p (call_act p.node session) is
+      (acts.calls p.node session).0.same_me there)
 
   take_same : (id from : NodeId) → Same w (outcome w (event.Act id from)).world
-  take_same id from = at_live w id (λ r q. Same w (act_outcome w from r q (inbox_on w r)).world) idle_same (λ k. idle_same) (λ k p place is same alive. by k p is (slice_get w.inboxes k) refl)
+  take_same id from = at_live w id (λ r q. Same w (act_outcome w from r q (inbox_on w r)).world) idle_same (λ k. idle_same)
+      (λ k p place is same alive. by k p is (slice_get w.inboxes k) refl)
     where
-      taking : (k : ℕ) (p : Part) → slice_get w.parts k ≡ Some p → (b : Inbox) → slice_get w.inboxes k ≡ Some b → (o : Option Message) → Same w (act_outcome_from w k p b from o).world
+      taking : (k : ℕ) (p : Part) → slice_get w.parts k ≡ Some p → (b : Inbox) → slice_get w.inboxes k ≡ Some b →
+          (o : Option Message) → Same w (act_outcome_from w k p b from o).world
       taking k p is b box None = idle_same
-      taking k p is b box (Some m) = acted_same (slice_set w.inboxes k (inbox_after_pop b from)) w.directory k p (message_act p.node from m) is (acts.takes p.node from m).0.same_me
-          (set_lane w.inboxes k b (inbox_after_pop b from) box (on_link_lane b from (λ (l : Link). record l { messages = drop 1 l.messages })))
+      taking k p is b box (Some m) = acted_same (slice_set w.inboxes k (inbox_after_pop b from)) w.directory k p
+          (message_act p.node from m) is (acts.takes p.node from m).0.same_me
+          (set_lane w.inboxes k b (inbox_after_pop b from) box
+          (on_link_lane b from (λ (l : Link). record l { messages = drop 1 l.messages })))
 
-      by : (k : ℕ) (p : Part) → slice_get w.parts k ≡ Some p → (o : Option Inbox) → slice_get w.inboxes k ≡ o → Same w (act_outcome w from (Some k) (Some p) o).world
+      by : (k : ℕ) (p : Part) → slice_get w.parts k ≡ Some p → (o : Option Inbox) → slice_get w.inboxes k ≡ o →
+          Same w (act_outcome w from (Some k) (Some p) o).world
       by k p is None box = idle_same
       by k p is (Some b) box = taking k p is b box (oldest_in b from)
 
   send_same : (id : NodeId) → Same w (outcome w (event.Send id)).world
-  send_same id = at_live w id (λ r q. Same w (send_outcome w r q).world) idle_same (λ k. idle_same) (λ k p place is same alive. by k p is (oldest_out p.node))
+  send_same id = at_live w id (λ r q. Same w (send_outcome w r q).world) idle_same (λ k. idle_same)
+      (λ k p place is same alive. by k p is (oldest_out p.node))
     where
-      to : (k : ℕ) (p : Part) → slice_get w.parts k ≡ Some p → (out : Out) (r : Option ℕ) (o : Option Inbox) → inbox_on w r ≡ o → Same w (outcome_of_act (with_inbox_push w p.node.me out.msg r o) k p (act_of_send (with_act_begun p.node) (Some out))).world
-      to k p is out None o box = acted_same w.inboxes w.directory k p (act_of_send (with_act_begun p.node) (Some out)) is refl there
-      to k p is out (Some j) None box = acted_same w.inboxes w.directory k p (act_of_send (with_act_begun p.node) (Some out)) is refl there
-      to k p is out (Some j) (Some b) box = acted_same (slice_set w.inboxes j (inbox_after_push b p.node.me out.msg)) w.directory k p (act_of_send (with_act_begun p.node) (Some out)) is refl
+      to : (k : ℕ) (p : Part) → slice_get w.parts k ≡ Some p → (out : Out) (r : Option ℕ) (o : Option Inbox) →
+          inbox_on w r ≡ o → Same w (outcome_of_act (with_inbox_push w p.node.me out.msg r o) k p
+          (act_of_send (with_act_begun p.node) (Some out))).world
+      to k p is out None o box = acted_same w.inboxes w.directory k p (act_of_send (with_act_begun p.node) (Some out)) is refl
+          there
+      to k p is out (Some j) None box = acted_same w.inboxes w.directory k p (act_of_send (with_act_begun p.node) (Some out))
+          is refl there
+      to k p is out (Some j) (Some b) box = acted_same (slice_set w.inboxes j (inbox_after_push b p.node.me out.msg))
+          w.directory k p (act_of_send (with_act_begun p.node) (Some out)) is refl
           (set_lane w.inboxes j b (inbox_after_push b p.node.me out.msg) box (pushed_lane b p.node.me out.msg))
 
-      by : (k : ℕ) (p : Part) → slice_get w.parts k ≡ Some p → (o : Option Out) → Same w (outcome_of_act (with_delivery w p.node.me o) k p (act_of_send (with_act_begun p.node) o)).world
+      by : (k : ℕ) (p : Part) → slice_get w.parts k ≡ Some p → (o : Option Out) →
+          Same w (outcome_of_act (with_delivery w p.node.me o) k p (act_of_send (with_act_begun p.node) o)).world
       by k p is None = acted_same w.inboxes w.directory k p (act_of_send (with_act_begun p.node) None) is refl there
       by k p is (Some out) = to k p is out (place_of w out.to) (inbox_on w (place_of w out.to)) refl
 
   see_same : (id : NodeId) → Same w (outcome w (event.See id)).world
-  see_same id = at_live w id (λ r q. Same w (see_outcome w r q).world) idle_same (λ k. idle_same) (λ k p place is same alive. by k p is (event_at w.directory p.node.read))
+  see_same id = at_live w id (λ r q. Same w (see_outcome w r q).world) idle_same (λ k. idle_same) (λ k p place is same alive.
+      by k p is (event_at w.directory p.node.read))
     where
       by : (k : ℕ) (p : Part) → slice_get w.parts k ≡ Some p → (o : Option TopoEvent) → Same w (see_outcome_of w k p o).world
       by k p is None = idle_same
       by k p is (Some e) = acted_same w.inboxes w.directory k p (see_act p.node e) is (acts.sees p.node e).0.same_me there
 
   -- all parts change, with these inboxes
-  map_same : (ins : List Inbox) (d : Directory) (f : Part → Part) → ((p : Part) → (f p).node.me ≡ p.node.me) → ((j : ℕ) (x : NodeId) → lane_in (slice_get ins j) x ≡ lane_in (slice_get w.inboxes j) x)
+  map_same : (ins : List Inbox) (d : Directory) (f : Part → Part) → ((p : Part) → (f p).node.me ≡ p.node.me) →
+      ((j : ℕ) (x : NodeId) → lane_in (slice_get ins j) x ≡ lane_in (slice_get w.inboxes j) x)
       → Same w (record w { parts = map f w.parts; inboxes = ins; directory = d })
   map_same ins d f me boxes = record { places = λ n. mapped_place w f me n; boxes = boxes }
 
@@ -184,27 +220,44 @@ module _ (w : World) where
       other = record w { inboxes = inboxes_emptied id w.inboxes }
 
       on_box : (k : ℕ) (o : Option Inbox) → slice_get other.inboxes k ≡ o
-          → Same w (let u = with_inbox_shut other (Some k) o in record u { parts = map (part_after_loss id) u.parts; directory = with_step_done (with_event d (topo.Left id)) })
-      on_box k None none = map_same (inboxes_emptied id w.inboxes) (with_step_done (with_event d (topo.Left id))) (part_after_loss id) (loss_me id) (emptied_lane w id)
-      on_box k (Some b) some = map_same (slice_set other.inboxes k (inbox_shut b)) (with_step_done (with_event d (topo.Left id))) (part_after_loss id) (loss_me id)
+          → Same w (let u = with_inbox_shut other (Some k) o in record u {
+            parts = map (part_after_loss id) u.parts;
+            directory = with_step_done (with_event d (topo.Left id));
+          })
+      on_box k None none = map_same (inboxes_emptied id w.inboxes) (with_step_done (with_event d (topo.Left id)))
+          (part_after_loss id) (loss_me id) (emptied_lane w id)
+      on_box k (Some b) some = map_same (slice_set other.inboxes k (inbox_shut b))
+          (with_step_done (with_event d (topo.Left id))) (part_after_loss id) (loss_me id)
           (λ j x. set_lane other.inboxes k b (inbox_shut b) some (each_lane b (keys_in b.links)) j x ∙ emptied_lane w id j x)
 
-      by : (r : Option ℕ) → Same w (record (world_after_loss w id r) { directory = with_step_done (with_event d (topo.Left id)) })
-      by None = map_same (inboxes_emptied id w.inboxes) (with_step_done (with_event d (topo.Left id))) (part_after_loss id) (loss_me id) (emptied_lane w id)
+      by : (r : Option ℕ) → Same w (record (world_after_loss w id r) {
+        directory =
+            with_step_done (with_event d (topo.Left id));
+      })
+      by None = map_same (inboxes_emptied id w.inboxes) (with_step_done (with_event d (topo.Left id))) (part_after_loss id)
+          (loss_me id) (emptied_lane w id)
       by (Some k) = on_box k (slice_get other.inboxes k) refl
 
-  join_same : (m : Member) (d : Directory) (r : Option ℕ) (q : Option Part) → part_on w r ≡ q → Same w (join_outcome w m d r q).world
+  join_same : (m : Member) (d : Directory) (r : Option ℕ) (q : Option Part) → part_on w r ≡ q →
+      Same w (join_outcome w m d r q).world
   join_same m d None q is = same_itself w (with_step_done d)
   join_same m d (Some k) None is = same_itself w (with_step_done d)
   join_same m d (Some k) (Some p) is =
       let act = join_act p.node d.events d.clock (topo.Join m) in
-      part_same w.inboxes (with_step_done (directory_after_join d m)) w.broken k p (record { node = act.state; life = life.Alive }) is
+      part_same w.inboxes (with_step_done (directory_after_join d m)) w.broken k p
+      (record { node = act.state; life = life.Alive }) is
       ((acts.sees (after_learn_all p.node d.events d.clock) (topo.Join m)).0.same_me ∙ learned_me d.events p.node) there
 
-  hold_same : (from : NodeId) (flag : Bool) (d : Directory) (r : Option ℕ) (o : Option Inbox) → inbox_on w r ≡ o → Same w (plan_outcome_with (with_link_held w from flag r o) d None []).world
+  hold_same : (from : NodeId) (flag : Bool) (d : Directory) (r : Option ℕ) (o : Option Inbox) → inbox_on w r ≡ o →
+      Same w (plan_outcome_with (with_link_held w from flag r o) d None []).world
   hold_same from flag d None o box = same_itself w (with_step_done d)
   hold_same from flag d (Some j) None box = same_itself w (with_step_done d)
-  hold_same from flag d (Some j) (Some b) box = record { places = λ n. refl; boxes = set_lane w.inboxes j b (with_hold b from flag) box (on_link_lane b from (λ (l : Link). record l { held = flag })) }
+  hold_same from flag d (Some j) (Some b) box =
+      record {
+        places = λ n. refl;
+        boxes = set_lane w.inboxes j b (with_hold b from flag) box
+            (on_link_lane b from (λ (l : Link). record l { held = flag }));
+      }
 
   step_same : (st : Step) → Same w (step_outcome w w.directory st).world
   step_same (step.Join m) = join_same m w.directory (place_of w m.node) (part_on w (place_of w m.node)) refl
@@ -220,7 +273,8 @@ module _ (w : World) where
 
   memory_same : (id : NodeId) → Same w (outcome w (event.Memory id)).world
   memory_same id = at_live w id (λ r q. Same w (memory_outcome w r q).world) nowhere (λ k. nowhere)
-      (λ k p place is same alive. part_same w.inboxes w.directory true k p (record { node = with_act_begun p.node; life = p.life }) is refl there)
+      (λ k p place is same alive. part_same w.inboxes w.directory true k p
+      (record { node = with_act_begun p.node; life = p.life }) is refl there)
     where
       nowhere : Same w (record w { broken = true })
       nowhere = record { places = λ n. refl; boxes = λ j x. refl }
@@ -231,7 +285,8 @@ module _ (w : World) where
   event_same (event.Send id) = send_same id
   event_same (event.See id) = see_same id
   event_same (event.Expire tx) = at_live w tx.node (λ r q. Same w (expire_outcome w tx r q).world) idle_same (λ k. idle_same)
-      (λ k p place is same alive. acted_same w.inboxes w.directory k p (expire_act p.node tx) is (acts.expires p.node tx).0.same_me there)
+      (λ k p place is same alive. acted_same w.inboxes w.directory k p (expire_act p.node tx) is
+      (acts.expires p.node tx).0.same_me there)
   event_same (event.Minor id) = at_live w id (λ r q. Same w (minor_outcome w r q).world) idle_same (λ k. idle_same)
       (λ k p place is same alive. acted_same w.inboxes (with_event w.directory topo.Minor) k p (minor_act p.node) is refl there)
   event_same (event.Call session) = call_same session (at nat_cmp w.session_nodes session)

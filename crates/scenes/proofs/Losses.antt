@@ -37,7 +37,8 @@ Reaches a b = (a.major < b.major) ⊎ ((a.major ≡ b.major) × (a.minor ≤ b.m
 
 reaches : (a b : TopVer) → is_higher a b ≡ false → Reaches a b
 reaches a b low =
-    (elim (nat_lt b.major a.major) as (λ r. nat_lt b.major a.major ≡ r → (r || ((a.major == b.major) && nat_lt b.minor a.minor)) ≡ false → Reaches a b) [
+    (elim (nat_lt b.major a.major) as (λ r. nat_lt b.major a.major ≡ r →
+    (r || ((a.major == b.major) && nat_lt b.minor a.minor)) ≡ false → Reaches a b) [
       | true ↦ λ t e. absurd (cc (e))
       | false ↦ λ f e.
           (elim (a.major == b.major) as (λ r. (a.major == b.major) ≡ r → (r && nat_lt b.minor a.minor) ≡ false → Reaches a b) [
@@ -58,7 +59,8 @@ reaches_on a b c (inr x) (inr y) = let p = x.0 in let q = y.0 in let r = x.1 in 
 
 higher_reaches : (a b : TopVer) → is_higher a b ≡ true → Reaches b a
 higher_reaches a b high =
-    (elim (nat_lt b.major a.major) as (λ r. nat_lt b.major a.major ≡ r → (r || ((a.major == b.major) && nat_lt b.minor a.minor)) ≡ true → Reaches b a) [
+    (elim (nat_lt b.major a.major) as (λ r. nat_lt b.major a.major ≡ r →
+    (r || ((a.major == b.major) && nat_lt b.minor a.minor)) ≡ true → Reaches b a) [
       | true ↦ λ t e. inl (grind (arith, nat_tests, t))
       | false ↦ λ f e.
           let both = first_rest (a.major == b.major) (nat_lt b.minor a.minor) e in
@@ -89,7 +91,8 @@ newer_up : (best next : Option PartMap) → UpTo best (newer_map best next) × U
 newer_up None next = (tt, up_itself next)
 newer_up (Some best) None = (itself best.top, tt)
 newer_up (Some best) (Some next) =
-    elim (is_higher next.top best.top) as (λ b. is_higher next.top best.top ≡ b → UpTo (Some best) (if b then Some next else Some best) × UpTo (Some next) (if b then Some next else Some best)) [
+    elim (is_higher next.top best.top) as (λ b. is_higher next.top best.top ≡ b →
+    UpTo (Some best) (if b then Some next else Some best) × UpTo (Some next) (if b then Some next else Some best)) [
       | true ↦ λ t. (higher_reaches next.top best.top t, itself next.top)
       | false ↦ λ f. (itself best.top, reaches next.top best.top f)
     ] refl
@@ -99,7 +102,8 @@ pub newer_is : (best next : Option PartMap) (m : PartMap) → newer_map best nex
 newer_is None next m is = inr is
 newer_is (Some best) None m is = inl is
 newer_is (Some best) (Some next) m is =
-    (elim (is_higher next.top best.top) as (λ b. (if b then Some next else Some best) ≡ Some m → (Some best ≡ Some m) ⊎ (Some next ≡ Some m)) [
+    (elim (is_higher next.top best.top) as (λ b. (if b then Some next else Some best) ≡ Some m → (Some best ≡ Some m)
+    ⊎ (Some next ≡ Some m)) [
       | true ↦ λ e. inr e
       | false ↦ λ e. inl e
     ]) is
@@ -119,10 +123,12 @@ taken_up id best p = by (outlives id p)
 
 best_up : (id : NodeId) (best : Option PartMap) (ps : List Part) → UpTo best (best_map_from id best ps)
 best_up id best [] = up_itself best
-best_up id best (p ∷ ps) = up_on best (taken id best p) (best_map_from id (taken id best p) ps) (taken_up id best p) (best_up id (taken id best p) ps)
+best_up id best (p ∷ ps) = up_on best (taken id best p) (best_map_from id (taken id best p) ps) (taken_up id best p)
+    (best_up id (taken id best p) ps)
 
 -- no survivor has a higher one
-best_each : (id : NodeId) (best : Option PartMap) (ps : List Part) (k : ℕ) (q : Part) → slice_get ps k ≡ Some q → outlives id q ≡ true → UpTo q.node.installed (best_map_from id best ps)
+best_each : (id : NodeId) (best : Option PartMap) (ps : List Part) (k : ℕ) (q : Part) → slice_get ps k ≡ Some q →
+    outlives id q ≡ true → UpTo q.node.installed (best_map_from id best ps)
 best_each id best [] k q there out = absurd (cc (there))
 best_each id best (p ∷ ps) zero q there out =
     let same : p ≡ q = cc (there) in
@@ -140,11 +146,13 @@ pub record Survivor (id : NodeId) (ps : List Part) (m : PartMap) : Type 0 where
   pub lives_on : outlives id part ≡ true
   pub has_it : part.node.installed ≡ Some m
 
-best_there : (id : NodeId) (best : Option PartMap) (ps : List Part) (m : PartMap) → best_map_from id best ps ≡ Some m → (best ≡ Some m) ⊎ Survivor id ps m
+best_there : (id : NodeId) (best : Option PartMap) (ps : List Part) (m : PartMap) → best_map_from id best ps ≡ Some m →
+    (best ≡ Some m) ⊎ Survivor id ps m
 best_there id best [] m is = inl is
 best_there id best (p ∷ ps) m is = by_rest (best_there id (taken id best p) ps m is)
   where
-    here : (c : Bool) → outlives id p ≡ c → (if c then newer_map best p.node.installed else best) ≡ Some m → (best ≡ Some m) ⊎ Survivor id (p ∷ ps) m
+    here : (c : Bool) → outlives id p ≡ c → (if c then newer_map best p.node.installed else best) ≡ Some m → (best ≡ Some m)
+        ⊎ Survivor id (p ∷ ps) m
     here true lives found = by_newer (newer_is best p.node.installed m found)
       where
         by_newer : (best ≡ Some m) ⊎ (p.node.installed ≡ Some m) → (best ≡ Some m) ⊎ Survivor id (p ∷ ps) m
@@ -154,14 +162,23 @@ best_there id best (p ∷ ps) m is = by_rest (best_there id (taken id best p) ps
 
     by_rest : (taken id best p ≡ Some m) ⊎ Survivor id ps m → (best ≡ Some m) ⊎ Survivor id (p ∷ ps) m
     by_rest (inl first) = here (outlives id p) refl first
-    by_rest (inr x) = inr (record { place = suc x.place; part = x.part; stands = x.stands; lives_on = x.lives_on; has_it = x.has_it })
+    by_rest (inr x) = inr (record {
+      place = suc x.place;
+      part = x.part;
+      stands = x.stands;
+      lives_on = x.lives_on;
+      has_it =
+          x.has_it;
+    })
 
 -- A loss that leaves no partition bare.
 
-none_bare : (members : List Member) (id : NodeId) (part : ℕ) (rows : List Row) → first_bare members id part rows ≡ None → list_all (survives members id) rows ≡ true
+none_bare : (members : List Member) (id : NodeId) (part : ℕ) (rows : List Row) → first_bare members id part rows ≡ None →
+    list_all (survives members id) rows ≡ true
 none_bare members id part [] none = refl
 none_bare members id part (row ∷ rows) none =
-    (elim (survives members id row) as (λ b. (if b then first_bare members id (capped part 1) rows else Some part) ≡ None → (b && list_all (survives members id) rows) ≡ true) [
+    (elim (survives members id row) as (λ b. (if b then first_bare members id (capped part 1) rows else Some part) ≡ None →
+    (b && list_all (survives members id) rows) ≡ true) [
       | true ↦ λ e. none_bare members id (capped part 1) rows e
       | false ↦ λ e. absurd (cc (e))
     ]) none
@@ -170,23 +187,31 @@ unmapped : (o : Option ℕ) → option_map refusal.LeavesPartition o ≡ None �
 unmapped None is = refl
 unmapped (Some n) is = absurd (cc (is))
 
-module _ (s : Scenario) (recs : List Noted) (w : World) (id : NodeId) (apart : NodesApart w.parts) (alive : (scene_of s recs w).life id ≡ life.Alive) (unrefused : refusal_of_loss w.directory id (best_map_without w id) ≡ None) where
+module _ (s : Scenario) (recs : List Noted) (w : World) (id : NodeId) (apart : NodesApart w.parts)
+    (alive : (scene_of s recs w).life id ≡ life.Alive) (unrefused : refusal_of_loss w.directory id (best_map_without w id)
+    ≡ None) where
   abbrev sc : Scene
   sc = scene_of s recs w
 
   not_left : leaves_partition w.directory.members id (best_map_without w id) ≡ None
   not_left = by (is_member w.directory.members id) unrefused
     where
-      by : (c : Bool) → (if c then leaves_partition w.directory.members id (best_map_without w id) else Some refusal.NotIn) ≡ None → leaves_partition w.directory.members id (best_map_without w id) ≡ None
+      by : (c : Bool) → (if c then leaves_partition w.directory.members id (best_map_without w id) else Some refusal.NotIn)
+          ≡ None → leaves_partition w.directory.members id (best_map_without w id) ≡ None
       by true none = none
       by false none = absurd (cc (none))
 
   has_some : (m : PartMap) × (best_map_without w id ≡ Some m) × (list_all (survives w.directory.members id) m.rows ≡ true)
   has_some = by (best_map_without w id) refl not_left
     where
-      by : (o : Option PartMap) → best_map_without w id ≡ o → leaves_partition w.directory.members id o ≡ None → (m : PartMap) × (best_map_without w id ≡ Some m) × (list_all (survives w.directory.members id) m.rows ≡ true)
+      by : (o : Option PartMap) → best_map_without w id ≡ o → leaves_partition w.directory.members id o ≡ None → (m : PartMap)
+          × (best_map_without w id ≡ Some m) × (list_all (survives w.directory.members id) m.rows ≡ true)
       by None is none = absurd (cc (none))
-      by (Some m) is none = (m, is, none_bare w.directory.members id 0 m.rows (unmapped (first_bare w.directory.members id 0 m.rows) none))
+      by (Some m) is none = (
+        m,
+        is,
+        none_bare w.directory.members id 0 m.rows (unmapped (first_bare w.directory.members id 0 m.rows) none),
+      )
 
   survivor_is : (p : Part) → is_survivor id p.node.me p.life ≡ outlives id p
   survivor_is p = by (is_alive p.life) (same_node id p.node.me) (same_node p.node.me id) (turned id p.node.me)
@@ -198,10 +223,13 @@ module _ (s : Scenario) (recs : List Noted) (w : World) (id : NodeId) (apart : N
       by false false c same = refl
 
   -- a part that survives, where a survivor stands
-  stands_at : (x : NodeId) → is_survivor id x (sc.life x) ≡ true → (k : ℕ) × (p : Part) × (slice_get w.parts k ≡ Some p) × (outlives id p ≡ true) × ((sc.state x).installed ≡ p.node.installed)
+  stands_at : (x : NodeId) → is_survivor id x (sc.life x) ≡ true → (k : ℕ) × (p : Part) × (slice_get w.parts k ≡ Some p)
+      × (outlives id p ≡ true) × ((sc.state x).installed ≡ p.node.installed)
   stands_at x lives = by (place_of w x) refl
     where
-      at : (r : Option ℕ) → place_of w x ≡ r → (q : Option Part) → part_on w r ≡ q → is_survivor id x (part_or_absent s x q).life ≡ true → (k : ℕ) × (p : Part) × (slice_get w.parts k ≡ Some p) × (outlives id p ≡ true) × ((state_at_rest (part_or_absent s x q).node).installed ≡ p.node.installed)
+      at : (r : Option ℕ) → place_of w x ≡ r → (q : Option Part) → part_on w r ≡ q →
+          is_survivor id x (part_or_absent s x q).life ≡ true → (k : ℕ) × (p : Part) × (slice_get w.parts k ≡ Some p)
+          × (outlives id p ≡ true) × ((state_at_rest (part_or_absent s x q).node).installed ≡ p.node.installed)
       at r place None is on = absurd (no_one (same_node id x) on)
         where
           no_one : (c : Bool) → (if c then false else false) ≡ true → ⊥
@@ -212,22 +240,33 @@ module _ (s : Scenario) (recs : List Noted) (w : World) (id : NodeId) (apart : N
           let me : p.node.me ≡ x = part_me w x p (ap (part_on w) place ∙ is) in
           (k, p, is, sym (survivor_is p) ∙ ap (λ (n : NodeId). is_survivor id n p.life) me ∙ on, refl)
 
-      by : (r : Option ℕ) → place_of w x ≡ r → (k : ℕ) × (p : Part) × (slice_get w.parts k ≡ Some p) × (outlives id p ≡ true) × ((sc.state x).installed ≡ p.node.installed)
+      by : (r : Option ℕ) → place_of w x ≡ r → (k : ℕ) × (p : Part) × (slice_get w.parts k ≡ Some p) × (outlives id p ≡ true)
+          × ((sc.state x).installed ≡ p.node.installed)
       by r place =
           let here : part_at w x ≡ part_on w r = ap (part_on w) place in
-          let found = at r place (part_on w r) refl (ap (λ (q : Option Part). is_survivor id x (part_or_absent s x q).life) (sym here) ∙ lives) in
-          (found.0, found.1, found.2, found.3, ap (λ (q : Option Part). (state_at_rest (part_or_absent s x q).node).installed) here ∙ found.4)
+          let found = at r place (part_on w r) refl (ap (λ (q : Option Part). is_survivor id x (part_or_absent s x q).life)
+          (sym here) ∙ lives) in (
+            found.0,
+            found.1,
+            found.2,
+            found.3,
+            ap (λ (q : Option Part). (state_at_rest (part_or_absent s x q).node).installed)
+                here ∙ found.4,
+          )
 
-  highest : (best : PartMap) → best_map_without w id ≡ Some best → (x : NodeId) (m : PartMap) → is_survivor id x (sc.life x) ≡ true → (sc.state x).installed ≡ Some m → is_higher m.top best.top ≡ false
+  highest : (best : PartMap) → best_map_without w id ≡ Some best → (x : NodeId) (m : PartMap) →
+      is_survivor id x (sc.life x) ≡ true → (sc.state x).installed ≡ Some m → is_higher m.top best.top ≡ false
   highest best is x m lives has =
       let p = stands_at x lives in
       let up : UpTo p.1.node.installed (best_map_without w id) = best_each id None w.parts p.0 p.1 p.2 p.3 in
-      not_higher m.top best.top (subst (λ (o : Option PartMap). UpTo (Some m) o) is (subst (λ (o : Option PartMap). UpTo o (best_map_without w id)) (sym p.4 ∙ has) up))
+      not_higher m.top best.top (subst (λ (o : Option PartMap). UpTo (Some m) o) is
+      (subst (λ (o : Option PartMap). UpTo o (best_map_without w id)) (sym p.4 ∙ has) up))
 
   pub may_be_lost : MayBeLost sc id
   may_be_lost = by has_some
     where
-      with_best : (m : PartMap) → best_map_without w id ≡ Some m → list_all (survives w.directory.members id) m.rows ≡ true → (no_best ≡ Some m) ⊎ Survivor id w.parts m → MayBeLost sc id
+      with_best : (m : PartMap) → best_map_without w id ≡ Some m → list_all (survives w.directory.members id) m.rows ≡ true →
+          (no_best ≡ Some m) ⊎ Survivor id w.parts m → MayBeLost sc id
       with_best m is owned (inl none) = absurd (cc (none))
       with_best m is owned (inr x) =
           let same = same_node_itself x.part.node.me in
@@ -235,11 +274,14 @@ module _ (s : Scenario) (recs : List Noted) (w : World) (id : NodeId) (apart : N
             alive = alive;
             best = m;
             at = x.part.node.me;
-            at_survives = ap (is_survivor id x.part.node.me) (life_here s recs w x.place x.part apart x.stands x.part.node.me same) ∙ survivor_is x.part ∙ x.lives_on;
-            has_best = ap (λ (st : NodeState). st.installed) (state_here s recs w x.place x.part apart x.stands x.part.node.me same) ∙ x.has_it;
+            at_survives = ap (is_survivor id x.part.node.me)
+                (life_here s recs w x.place x.part apart x.stands x.part.node.me same) ∙ survivor_is x.part ∙ x.lives_on;
+            has_best = ap (λ (st : NodeState). st.installed)
+                (state_here s recs w x.place x.part apart x.stands x.part.node.me same) ∙ x.has_it;
             none_higher = highest m is;
             keeps_owners = owned;
           }
 
-      by : (m : PartMap) × (best_map_without w id ≡ Some m) × (list_all (survives w.directory.members id) m.rows ≡ true) → MayBeLost sc id
+      by : (m : PartMap) × (best_map_without w id ≡ Some m) × (list_all (survives w.directory.members id) m.rows ≡ true) →
+          MayBeLost sc id
       by x = with_best x.0 x.1 x.2 (best_there id no_best w.parts x.0 x.1)

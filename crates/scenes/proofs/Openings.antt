@@ -65,7 +65,8 @@ still_stands (y ∷ ys) k x (suc j) is =
 now_stands : (xs : List NodeId) (k : NodeId) → Stands (with_member node_cmp xs k) k
 now_stands [] k = (0, refl)
 now_stands (y ∷ ys) k =
-    elim (node_cmp k y) as (λ r. node_cmp k y ≡ r → Stands (match_ordering r (k ∷ y ∷ ys) (y ∷ ys) (y ∷ with_member node_cmp ys k)) k) [
+    elim (node_cmp k y) as (λ r. node_cmp k y ≡ r →
+    Stands (match_ordering r (k ∷ y ∷ ys) (y ∷ ys) (y ∷ with_member node_cmp ys k)) k) [
       | Less ↦ λ g. (0, refl)
       | Equal ↦ λ g. (0, ap (λ (n : NodeId). Some n) (sym (exact_node k y g)))
       | Greater ↦ λ g. behind y (with_member node_cmp ys k) k (now_stands ys k)
@@ -75,13 +76,16 @@ set_keeps : (xs : List NodeId) (ms : List Member) (x : NodeId) → Stands xs x �
 set_keeps xs [] x at = at
 set_keeps xs (m ∷ ms) x at = set_keeps (with_member node_cmp xs m.node) ms x (still_stands xs m.node x at.0 at.1)
 
-pub set_both : (xs : List NodeId) (ms more : List Member) (x : NodeId) → is_member ms x ≡ true → Stands (node_set xs (ms ++ more)) x
+pub set_both : (xs : List NodeId) (ms more : List Member) (x : NodeId) → is_member ms x ≡ true →
+    Stands (node_set xs (ms ++ more)) x
 set_both xs [] more x is = absurd (cc (is))
 set_both xs (m ∷ ms) more x is =
-    (elim (same_node x m.node) as (λ b. same_node x m.node ≡ b → (b || is_member ms x) ≡ true → Stands (node_set xs ((m ∷ ms) ++ more)) x) [
+    (elim (same_node x m.node) as (λ b. same_node x m.node ≡ b → (b || is_member ms x) ≡ true →
+    Stands (node_set xs ((m ∷ ms) ++ more)) x) [
       | true ↦ λ t e.
           let now = now_stands xs m.node in
-          subst (λ (n : NodeId). Stands (node_set xs ((m ∷ ms) ++ more)) n) (sym (same_node_true x m.node t)) (set_keeps (with_member node_cmp xs m.node) (ms ++ more) m.node now)
+          subst (λ (n : NodeId). Stands (node_set xs ((m ∷ ms) ++ more)) n) (sym (same_node_true x m.node t))
+          (set_keeps (with_member node_cmp xs m.node) (ms ++ more) m.node now)
       | false ↦ λ f e. set_both (with_member node_cmp xs m.node) ms more x e
     ]) refl is
 
@@ -96,7 +100,8 @@ module _ (s : Scenario) (apart : are_distinct good.same_member_node (members s) 
   c = opening_carries s apart
 
   abbrev as_opened : NodeId → Part → Type 0
-  as_opened n p = (p.life ≡ opening_life (is_member s.nodes n)) × (state_at_rest p.node ≡ opening_node s m n (is_member s.nodes n))
+  as_opened n p = (p.life ≡ opening_life (is_member s.nodes n))
+      × (state_at_rest p.node ≡ opening_node s m n (is_member s.nodes n))
 
   opened : (n : NodeId) → as_opened n (opening_part s m n)
   opened n = (refl, refl)
@@ -107,7 +112,8 @@ module _ (s : Scenario) (apart : are_distinct good.same_member_node (members s) 
       by : (b : Bool) → is_member s.nodes n ≡ b → b ≡ false
       by true member =
           let at = set_both [] s.nodes _ n member in
-          let stands : slice_get w.parts at.0 ≡ Some (opening_part s m n) = slice_get-map (opening_part s m) (ids_of s) at.0 ∙ ap (option_map (opening_part s m)) at.1 in
+          let stands : slice_get w.parts at.0 ≡ Some (opening_part s m n) = slice_get-map (opening_part s m) (ids_of s) at.0
+          ∙ ap (option_map (opening_part s m)) at.1 in
           let place = place_is w at.0 (opening_part s m n) n c.apart stands (same_node_itself n) in
           absurd (cc (none, place))
       by false other = refl
@@ -132,13 +138,15 @@ module _ (s : Scenario) (apart : are_distinct good.same_member_node (members s) 
   no_link : (x y : NodeId) → world_links w x y ≡ []
   no_link x y = by (place_of w y) refl
     where
-      on_link : (k : ℕ) (p : Part) (b : Inbox) (r : Option Link) → slice_get w.parts k ≡ Some p → slice_get w.inboxes k ≡ Some b → link_of b x ≡ r → link_messages r ≡ []
+      on_link : (k : ℕ) (p : Part) (b : Inbox) (r : Option Link) → slice_get w.parts k ≡ Some p →
+          slice_get w.inboxes k ≡ Some b → link_of b x ≡ r → link_messages r ≡ []
       on_link k p b None is box none = refl
       on_link k p b (Some l) is box some = sym (((c.inboxes_are k p b is box).links_are x l some).in_order refl refl)
 
       in_box : (k : ℕ) (o : Option Inbox) → place_of w y ≡ Some k → slice_get w.inboxes k ≡ o → inbox_messages o x ≡ []
       in_box k None place box = refl
-      in_box k (Some b) place box = let q = part_there w y k (opening_part s m y) place in on_link k q.0 b (link_of b x) q.1 box refl
+      in_box k (Some b) place box = let q = part_there w y k (opening_part s m y) place in
+          on_link k q.0 b (link_of b x) q.1 box refl
 
       by : (r : Option ℕ) → place_of w y ≡ r → inbox_messages (inbox_on w r) x ≡ []
       by None place = refl
@@ -156,7 +164,8 @@ module _ (s : Scenario) (apart : are_distinct good.same_member_node (members s) 
 
 -- Between declared nodes there are links.
 
-inbox_lane : (xs : List NodeId) (links : List (NodeId × Link)) (a : NodeId) → (is_some (at node_cmp links a) ≡ true) ⊎ Stands xs a → is_some (at node_cmp (inbox_from links xs) a) ≡ true
+inbox_lane : (xs : List NodeId) (links : List (NodeId × Link)) (a : NodeId) → (is_some (at node_cmp links a) ≡ true)
+    ⊎ Stands xs a → is_some (at node_cmp (inbox_from links xs) a) ≡ true
 inbox_lane [] links a (inl there) = there
 inbox_lane [] links a (inr stands) = let none = stands.1 in absurd (cc (none))
 inbox_lane (x ∷ xs) links a either = inbox_lane xs (put node_cmp links x empty) a (next (same_node x a) refl either)
@@ -168,12 +177,16 @@ inbox_lane (x ∷ xs) links a either = inbox_lane xs (put node_cmp links x empty
     behind_it stands other = by stands.0 stands.1
       where
         by : (j : ℕ) → slice_get (x ∷ xs) j ≡ Some a → Stands xs a
-        by zero is = let itself : same_node x a ≡ true = subst (λ (y : NodeId). same_node x y ≡ true) (some_is x a is) (same_node_itself x) in absurd (cc (itself, other))
+        by zero is = let itself : same_node x a ≡ true = subst (λ (y : NodeId). same_node x y ≡ true) (some_is x a is)
+            (same_node_itself x) in absurd (cc (itself, other))
         by (suc j) is = (j, is)
 
-    next : (c : Bool) → same_node x a ≡ c → (is_some (at node_cmp links a) ≡ true) ⊎ Stands (x ∷ xs) a → (is_some (at node_cmp (put node_cmp links x empty) a) ≡ true) ⊎ Stands xs a
-    next true same e = inl (subst (λ (y : NodeId). is_some (at node_cmp (put node_cmp links x empty) y) ≡ true) (same_node_true x a same) (ap is_some (laws.at_put_same node_cmp node_total links x empty)))
-    next false other (inl there) = inl (ap is_some (laws.at_put_other node_cmp node_total links x a empty (node_apart x a other)) ∙ there)
+    next : (c : Bool) → same_node x a ≡ c → (is_some (at node_cmp links a) ≡ true) ⊎ Stands (x ∷ xs) a →
+        (is_some (at node_cmp (put node_cmp links x empty) a) ≡ true) ⊎ Stands xs a
+    next true same e = inl (subst (λ (y : NodeId). is_some (at node_cmp (put node_cmp links x empty) y) ≡ true)
+        (same_node_true x a same) (ap is_some (laws.at_put_same node_cmp node_total links x empty)))
+    next false other (inl there) =
+        inl (ap is_some (laws.at_put_other node_cmp node_total links x a empty (node_apart x a other)) ∙ there)
     next false other (inr stands) = inr (behind_it stands other)
 
 pub opening_full : (s : Scenario) → are_distinct good.same_member_node (members s) ≡ true → Full (opening s)
@@ -202,7 +215,8 @@ opening_full s apart a b at_a at_b = to (place_of w b) refl at_b
     to : (r : Option ℕ) → place_of w b ≡ r → is_some r ≡ true → lane_in (inbox_on w r) a ≡ true
     to None place none = absurd (cc (none))
     to (Some j) place some =
-        ap (λ (o : Option Inbox). lane_in o a) (slice_get-map (λ (id : NodeId). new_inbox (ids_of s)) (ids_of s) j ∙ ap (option_map (λ (id : NodeId). new_inbox (ids_of s))) (declared b j place))
+        ap (λ (o : Option Inbox). lane_in o a) (slice_get-map (λ (id : NodeId). new_inbox (ids_of s)) (ids_of s) j
+        ∙ ap (option_map (λ (id : NodeId). new_inbox (ids_of s))) (declared b j place))
         ∙ from (place_of w a) refl at_a
 
 pub opening_base : (s : Scenario) → Base (opening_scene s)

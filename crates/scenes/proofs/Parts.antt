@@ -16,9 +16,11 @@ use Rattle.tx_model.specs.World.{Part, World, part_at, part_on, place_of}
 abbrev pub numbers : List Part → List NodeId
 numbers ps = map (λ (p : Part). p.node.me) ps
 
-pub same_numbers : (ps : List Part) (k : ℕ) (p q : Part) → slice_get ps k ≡ Some p → q.node.me ≡ p.node.me → numbers (slice_set ps k q) ≡ numbers ps
+pub same_numbers : (ps : List Part) (k : ℕ) (p q : Part) → slice_get ps k ≡ Some p → q.node.me ≡ p.node.me →
+    numbers (slice_set ps k q) ≡ numbers ps
 same_numbers [] k p q here same = refl
-same_numbers (x ∷ ps) zero p q here same = ap (λ (id : NodeId). id ∷ numbers ps) (same ∙ ap (λ (y : Part). y.node.me) (sym (some_is x p here)))
+same_numbers (x ∷ ps) zero p q here same =
+    ap (λ (id : NodeId). id ∷ numbers ps) (same ∙ ap (λ (y : Part). y.node.me) (sym (some_is x p here)))
 same_numbers (x ∷ ps) (suc k) p q here same = ap (λ ids. x.node.me ∷ ids) (same_numbers ps k p q here same)
 
 prefix_by : (t : NodeId → Bool) (ps : List Part) → prefix_len (λ (p : Part). t p.node.me) ps ≡ prefix_len t (numbers ps)
@@ -29,10 +31,12 @@ length_by : (ps : List Part) → length ps ≡ length (numbers ps)
 length_by [] = refl
 length_by (p ∷ ps) = ap suc (length_by ps)
 
-place_by : (id : NodeId) (ps : List Part) → position (λ (p : Part). same_node p.node.me id) ps ≡ position (λ (x : NodeId). same_node x id) (numbers ps)
+place_by : (id : NodeId) (ps : List Part) → position (λ (p : Part). same_node p.node.me id) ps ≡ position
+    (λ (x : NodeId). same_node x id) (numbers ps)
 place_by id ps =
     ap (λ n. cond (nat_lt n (length ps)) (Some n) None) (prefix_by (λ (x : NodeId). not (same_node x id)) ps)
-    ∙ ap (λ l. let n = prefix_len (λ (x : NodeId). not (same_node x id)) (numbers ps) in cond (nat_lt n l) (Some n) None) (length_by ps)
+    ∙ ap (λ l. let n = prefix_len (λ (x : NodeId). not (same_node x id)) (numbers ps) in cond (nat_lt n l) (Some n) None)
+    (length_by ps)
 
 -- the places are those of the numbers
 pub same_place : (w w2 : World) → numbers w2.parts ≡ numbers w.parts → (id : NodeId) → place_of w2 id ≡ place_of w id
@@ -56,13 +60,15 @@ there_at (x ∷ xs) zero within = (x, refl)
 there_at (x ∷ xs) (suc k) within = there_at xs k (omega (arith, within))
 
 -- a part stands where a node stands
-pub part_there : (w : World) (id : NodeId) (k : ℕ) (any : Part) → place_of w id ≡ Some k → (p : Part) × (slice_get w.parts k ≡ Some p) × (p.node.me ≡ id)
+pub part_there : (w : World) (id : NodeId) (k : ℕ) (any : Part) → place_of w id ≡ Some k → (p : Part)
+    × (slice_get w.parts k ≡ Some p) × (p.node.me ≡ id)
 part_there w id k any place =
     let there = there_at w.parts k (position-Some (λ (x : Part). same_node x.node.me id) w.parts k any place).0 in
     (there.0, there.1, same_node_true there.0.node.me id (stands_there w k there.0 id place there.1))
 
 -- the part of a node at its place
-pub part_is : (w : World) (k : ℕ) (p : Part) (n : NodeId) → NodesApart w.parts → slice_get w.parts k ≡ Some p → same_node p.node.me n ≡ true → part_at w n ≡ Some p
+pub part_is : (w : World) (k : ℕ) (p : Part) (n : NodeId) → NodesApart w.parts → slice_get w.parts k ≡ Some p →
+    same_node p.node.me n ≡ true → part_at w n ≡ Some p
 part_is w k p n apart is same = ap (part_on w) (place_is w k p n apart is same) ∙ is
 
 pub part_me : (w : World) (id : NodeId) (p : Part) → part_at w id ≡ Some p → p.node.me ≡ id
@@ -73,14 +79,16 @@ part_me w id p is =
     ]) refl is
 
 -- One part changed.
-module _ (w : World) (k : ℕ) (p q : Part) (apart : NodesApart w.parts) (is : slice_get w.parts k ≡ Some p) (me : q.node.me ≡ p.node.me) where
+module _ (w : World) (k : ℕ) (p q : Part) (apart : NodesApart w.parts) (is : slice_get w.parts k ≡ Some p)
+    (me : q.node.me ≡ p.node.me) where
   abbrev pub with_part : World
   with_part = record w { parts = slice_set w.parts k q }
 
   pub set_place : (id : NodeId) → place_of with_part id ≡ place_of w id
   set_place id = same_place w with_part (same_numbers w.parts k p q is me) id
 
-  set_at : (id : NodeId) (r : Option ℕ) → place_of w id ≡ r → (b : Bool) → same_node p.node.me id ≡ b → option_and_then (slice_get (slice_set w.parts k q)) r ≡ (if b then Some q else option_and_then (slice_get w.parts) r)
+  set_at : (id : NodeId) (r : Option ℕ) → place_of w id ≡ r → (b : Bool) → same_node p.node.me id ≡ b →
+      option_and_then (slice_get (slice_set w.parts k q)) r ≡ (if b then Some q else option_and_then (slice_get w.parts) r)
   set_at id None place true same = let there = place_is w k p id apart is same in absurd (cc (there, place))
   set_at id None place false same = refl
   set_at id (Some j) place true same =
@@ -106,7 +114,8 @@ module _ (w : World) (f : Part → Part) (me : (p : Part) → (f p).node.me ≡ 
   pub mapped_place : (id : NodeId) → place_of mapped id ≡ place_of w id
   mapped_place id = same_place w mapped (same_all f me w.parts) id
 
-  mapped_at : (r : Option ℕ) → option_and_then (slice_get (map f w.parts)) r ≡ option_map f (option_and_then (slice_get w.parts) r)
+  mapped_at : (r : Option ℕ) → option_and_then (slice_get (map f w.parts)) r ≡ option_map f
+      (option_and_then (slice_get w.parts) r)
   mapped_at None = refl
   mapped_at (Some j) = slice_get-map f w.parts j
 

@@ -1,4 +1,5 @@
--- What is shown of every legal run: the scene in which it ends, and how long it may be. Each part of a run from its beginning is
+-- What is shown of every legal run: the scene in which it ends, and how long it may be. Each part of a run from its beginning
+-- is
 -- a legal run too, so a law of the scenes in which runs end is a law of each moment.
 use Rattle.std.specs.Prelude.{Bool, IsTrue, length, nat_lt, take, true, ℕ, ◌^◌, ◌≡◌}
 use Rattle.ignite_types.specs.Good.{good}

@@ -38,7 +38,8 @@ pub record TakesFirst (before after : NodeId → NodeId → List Message) (from 
 
 abbrev pub IsWithoutOne : List Message → List Message → Type 0
 IsWithoutOne before after =
-    (earlier : List Message) × (m : Message) × (later : List Message) × (before ≡ earlier ++ m ∷ later) × (after ≡ earlier ++ later)
+    (earlier : List Message) × (m : Message) × (later : List Message) × (before ≡ earlier ++ m ∷ later)
+    × (after ≡ earlier ++ later)
 
 -- the same messages, or without one that went to a node that has not joined
 pub record DropsOne (before after : NodeId → NodeId → List Message) (from to : NodeId) : Type 0 where
@@ -53,7 +54,8 @@ pub record EachActKeeps (Inv : FlightView → Type 0) : Type 0 where
   pub expires : (sc : Scene) (n : NodeId) (s : NodeState) (tx : TxId) → IsSound sc → IsReady sc n s → tx.node ≡ n
       → is_overdue s tx ≡ true → HoldsInAct Inv sc n s → HoldsInAct Inv sc n (after_closing_rules (after_expire s tx))
   pub sees : (sc : Scene) (n : NodeId) (s : NodeState) (e : TopoEvent) → IsSound sc → IsReady sc n s
-      → event_at sc.directory s.read ≡ Some e → HoldsInAct Inv sc n s → HoldsInAct Inv sc n (after_closing_rules (after_see s s.read e))
+      → event_at sc.directory s.read ≡ Some e → HoldsInAct Inv sc n s →
+      HoldsInAct Inv sc n (after_closing_rules (after_see s s.read e))
   pub takes : (sc : Scene) (n : NodeId) (s : NodeState) (from : NodeId) (m : Message) → IsSound sc → IsReady sc n s
       → TakesFirst (flight_view sc).flight (flight_view (scene_after_take sc from n m)).flight from n m → Inv (flight_view sc)
       → HoldsInAct Inv (scene_after_take sc from n m) n (after_closing_rules (after_message s from m))

@@ -36,7 +36,8 @@ pub fn kept_tests_hold(events: u64) -> bool
 /// they owe nothing for the event that moves a message from an outbox to an inbox.
 pub fn kept_view_tests_hold(events: u64) -> bool
     ensures covered { result ≡ is_short_run events }
-    ensures law { result ≡ true → (test : _) (j : _) → IsKeptViewTest test → IsRunOf events j → test (flight_view (last_scene j)) ≡ true }
+    ensures law { result ≡ true → (test : _) (j : _) → IsKeptViewTest test → IsRunOf events j →
+        test (flight_view (last_scene j)) ≡ true }
 {
     kept_tests_hold(events)
 }
@@ -53,7 +54,8 @@ pub fn scenes_are_sound(events: u64) -> bool
 /// Whether the law covers runs of so many events: a node that is lost stays lost, and its state stays as it was.
 pub fn lost_nodes_stay(events: u64) -> bool
     ensures covered { result ≡ is_short_run events }
-    ensures law { result ≡ true → (j : _) (k : _) (n : _) → IsRunOf events j → (scene_at j k).life n ≡ life.Gone → StaysLost n (scene_at j k) (last_scene j) }
+    ensures law { result ≡ true → (j : _) (k : _) (n : _) → IsRunOf events j → (scene_at j k).life n ≡ life.Gone →
+        StaysLost n (scene_at j k) (last_scene j) }
 {
     kept_view_tests_hold(events)
 }
@@ -62,7 +64,8 @@ pub fn lost_nodes_stay(events: u64) -> bool
 /// records of plan steps and its late switches.
 pub fn events_are_told(events: u64) -> bool
     ensures covered { result ≡ is_short_run events }
-    ensures law { result ≡ true → (j : _) → IsRunOf events j → (last_scene j).directory.events ≡ topology_events j.scenario j.groups }
+    ensures law { result ≡ true → (j : _) → IsRunOf events j →
+        (last_scene j).directory.events ≡ topology_events j.scenario j.groups }
 {
     lost_nodes_stay(events)
 }

@@ -23,7 +23,8 @@ use Rattle.sched_seed.proofs.Below.{all_below, passes_below}
 
 -- the nodes of a generated scenario, the joining one last
 abbrev everyone : List Member
-everyone = generated_server 1 ∷ generated_server 2 ∷ generated_server 3 ∷ generated_server 4 ∷ generated_client 9 ∷ generated_server 5 ∷ []
+everyone = generated_server 1 ∷ generated_server 2 ∷ generated_server 3 ∷ generated_server 4 ∷ generated_client 9
+    ∷ generated_server 5 ∷ []
 
 good_keys : (n : ℕ) → n < 16 → good_key caches (numbered_key n) ≡ true
 unfolding digits
@@ -34,7 +35,8 @@ unfolding digits
 good_names place h = passes_below (λ p. is_name (numbered 83 (p + 1))) 64 refl place h
 
 good_session_nodes : (place : ℕ) → has_member everyone (home place) ≡ true
-good_session_nodes place = passes_below (λ r. has_member everyone (generated_node (slice_index (1 ∷ 3 ∷ 4 ∷ 9 ∷ []) r))) 4 refl (place % 4) (omega arith)
+good_session_nodes place = passes_below (λ r. has_member everyone (generated_node (slice_index (1 ∷ 3 ∷ 4 ∷ 9 ∷ []) r))) 4
+    refl (place % 4) (omega arith)
 
 not_true : (b : Bool) → not b ≡ true → b ≡ false
 not_true true h = absurd (cc)
@@ -63,7 +65,11 @@ good_transaction : (words : Words) → list_all (good_item caches) (transaction 
 good_transaction words =
     let from : words.from % 16 < 16 = omega arith in
     let to : words.to % 16 < 16 = omega arith in
-    rw (good_begin (words.mode % 2 == 0), good_keys (words.from % 16) from, good_keys (other_than (words.from % 16) (words.to % 16)) (other_below _ _ from to)) refl
+    rw (
+      good_begin (words.mode % 2 == 0),
+      good_keys (words.from % 16) from,
+      good_keys (other_than (words.from % 16) (words.to % 16)) (other_below _ _ from to),
+    ) refl
 
 good_commands : (txs : ℕ) (g : Lcg) → list_all (good_item caches) (script txs g) ≡ true
 good_commands zero g = refl
@@ -73,61 +79,80 @@ good_commands (suc txs) g =
 
 length-script : (txs : ℕ) (g : Lcg) → length (script txs g) ≡ 5 * txs
 length-script zero g = refl
-length-script (suc txs) g = let before : length (script txs (after_words g)) ≡ 5 * txs = length-script txs (after_words g) in omega arith
+length-script (suc txs) g = let before : length (script txs (after_words g)) ≡ 5 * txs = length-script txs (after_words g) in
+    omega arith
 
-good_begun : (even : Bool) (words : Words) (more : List Item) → good_blocks false (Plain (cond even (Begin Pessimistic 50) (Begin Optimistic 0)) ∷ moved_amount (words.from % 16) (other_than (words.from % 16) (words.to % 16)) (words.amount % 100 + 1) ++ Plain Commit ∷ Plain (Sleep 1) ∷ more) ≡ good_blocks false more
+good_begun : (even : Bool) (words : Words) (more : List Item) →
+    good_blocks false (Plain (cond even (Begin Pessimistic 50) (Begin Optimistic 0)) ∷ moved_amount (words.from % 16)
+    (other_than (words.from % 16) (words.to % 16)) (words.amount % 100 + 1) ++ Plain Commit ∷ Plain (Sleep 1) ∷ more)
+    ≡ good_blocks false more
 good_begun true words more = refl
 good_begun false words more = refl
 
 good_script : (txs : ℕ) (g : Lcg) → good_blocks false (script txs g) ≡ true
 good_script zero g = refl
-good_script (suc txs) g = good_begun ((words_of g).mode % 2 == 0) (words_of g) (script txs (after_words g)) ∙ good_script txs (after_words g)
+good_script (suc txs) g = good_begun ((words_of g).mode % 2 == 0) (words_of g) (script txs (after_words g))
+    ∙ good_script txs (after_words g)
 
 -- no command is one on an object
 no_objects : (txs : ℕ) (g : Lcg) → filter_map object_of (script txs g) ≡ []
 no_objects zero g = refl
 no_objects (suc txs) g = no_objects txs (after_words g)
 
-good_one : (place txs : ℕ) (g : Lcg) → place < 64 → txs ≤ 100 → good_session caches everyone (generated_session place txs g) ≡ true
+good_one : (place txs : ℕ) (g : Lcg) → place < 64 → txs ≤ 100 → good_session caches everyone (generated_session place txs g)
+    ≡ true
 good_one place txs g h few =
     let short : nat_le (length (script txs g)) 1000 ≡ true = rw (length-script txs g) (le-leb _ _ (omega arith)) in
     rw (good_names place h, good_session_nodes place, short, good_commands txs g, good_script txs g) refl
 
 length-sessions : (place n txs : ℕ) (g : Lcg) → length (sessions_from place n txs g) ≡ n
 length-sessions place zero txs g = refl
-length-sessions place (suc n) txs g = let before : length (sessions_from (place + 1) n txs (after_script txs g)) ≡ n = length-sessions (place + 1) n txs (after_script txs g) in omega arith
+length-sessions place (suc n) txs g = let before : length (sessions_from (place + 1) n txs (after_script txs g)) ≡ n =
+    length-sessions (place + 1) n txs (after_script txs g) in omega arith
 
-good_each : (place n txs : ℕ) (g : Lcg) → place + n ≤ 64 → txs ≤ 100 → list_all (good_session caches everyone) (sessions_from place n txs g) ≡ true
+good_each : (place n txs : ℕ) (g : Lcg) → place + n ≤ 64 → txs ≤ 100 →
+    list_all (good_session caches everyone) (sessions_from place n txs g) ≡ true
 good_each place zero txs g h few = refl
 good_each place (suc n) txs g h few =
     and_from _ _ (good_one place txs g (omega arith) few) (good_each (place + 1) n txs (after_script txs g) (omega arith) few)
 
 -- no session from a place on has the name of one before it
-other_names : (a place n txs : ℕ) (first g : Lcg) → a < place → place + n ≤ 64 → list_any (same_session_name (generated_session a txs first)) (sessions_from place n txs g) ≡ false
+other_names : (a place n txs : ℕ) (first g : Lcg) → a < place → place + n ≤ 64 →
+    list_any (same_session_name (generated_session a txs first)) (sessions_from place n txs g) ≡ false
 other_names a place zero txs first g h within = refl
 other_names a place (suc n) txs first g h within =
     let here : bytes_eq (numbered 83 (a + 1)) (numbered 83 (place + 1)) ≡ false = distinct_names a place h (omega arith) in
-    let later : list_any (same_session_name (generated_session a txs first)) (sessions_from (place + 1) n txs (after_script txs g)) ≡ false = other_names a (place + 1) n txs first (after_script txs g) (omega arith) (omega arith) in
+    let later : list_any (same_session_name (generated_session a txs first))
+    (sessions_from (place + 1) n txs (after_script txs g)) ≡ false =
+    other_names a (place + 1) n txs first (after_script txs g) (omega arith) (omega arith) in
     rw (here, later) refl
 
-distinct_sessions : (place n txs : ℕ) (g : Lcg) → place + n ≤ 64 → are_distinct same_session_name (sessions_from place n txs g) ≡ true
+distinct_sessions : (place n txs : ℕ) (g : Lcg) → place + n ≤ 64 →
+    are_distinct same_session_name (sessions_from place n txs g) ≡ true
 distinct_sessions place zero txs g h = refl
 distinct_sessions place (suc n) txs g h =
     and_from _ _
     (ap (λ (b : Bool). not b) (other_names place (place + 1) n txs g (after_script txs g) (omega arith) (omega arith)))
     (distinct_sessions (place + 1) n txs (after_script txs g) (omega arith))
 
-no_kinds : (place n txs : ℕ) (g : Lcg) → filter_map object_of (flat_map (λ (s : Session). s.commands) (sessions_from place n txs g)) ≡ []
+no_kinds : (place n txs : ℕ) (g : Lcg) →
+    filter_map object_of (flat_map (λ (s : Session). s.commands) (sessions_from place n txs g)) ≡ []
 no_kinds place zero txs g = refl
 no_kinds place (suc n) txs g =
-    filter_map-append object_of (script txs g) (flat_map (λ (s : Session). s.commands) (sessions_from (place + 1) n txs (after_script txs g)))
+    filter_map-append object_of (script txs g)
+    (flat_map (λ (s : Session). s.commands) (sessions_from (place + 1) n txs (after_script txs g)))
     ∙ rw (no_objects txs g) (no_kinds (place + 1) n txs (after_script txs g))
 
-good_all : (n txs : ℕ) (g : Lcg) → n ≤ 64 → txs ≤ 100 → (nat_le (length (sessions_from 0 n txs g)) 64 && list_all (good_session caches everyone) (sessions_from 0 n txs g) && are_distinct same_session_name (sessions_from 0 n txs g) && good_kinds (filter_map object_of (flat_map (λ (s : Session). s.commands) (sessions_from 0 n txs g)))) ≡ true
+good_all : (n txs : ℕ) (g : Lcg) → n ≤ 64 → txs ≤ 100 →
+    (nat_le (length (sessions_from 0 n txs g)) 64 && list_all (good_session caches everyone) (sessions_from 0 n txs g)
+    && are_distinct same_session_name (sessions_from 0 n txs g)
+    && good_kinds (filter_map object_of (flat_map (λ (s : Session). s.commands) (sessions_from 0 n txs g)))) ≡ true
 good_all n txs g h few =
     let count : nat_le (length (sessions_from 0 n txs g)) 64 ≡ true = rw (length-sessions 0 n txs g) (le-leb n 64 h) in
-    let kinds : good_kinds (filter_map object_of (flat_map (λ (s : Session). s.commands) (sessions_from 0 n txs g))) ≡ true = rw (no_kinds 0 n txs g) refl in
-    and_from _ _ (and_from _ _ (and_from _ _ count (good_each 0 n txs g (omega arith) few)) (distinct_sessions 0 n txs g (omega arith))) kinds
+    let kinds : good_kinds (filter_map object_of (flat_map (λ (s : Session). s.commands) (sessions_from 0 n txs g))) ≡ true =
+    rw (no_kinds 0 n txs g) refl in
+    and_from _ _ (and_from _ _ (and_from _ _ count (good_each 0 n txs g (omega arith) few))
+    (distinct_sessions 0 n txs g (omega arith))) kinds
 
 -- what the generator answers keeps the forms, names, order and limits of a scenario's text
 pub good_generated : (seed n txs : ℕ) → n ≤ 64 → txs ≤ 100 → good (generated seed n txs) ≡ true

@@ -46,4 +46,11 @@ sessions_from place (suc more) txs g = generated_session place txs g ∷ session
 -- The scenario of so many sessions of so many transactions each. All words are drawn from stream 7 of the seed.
 abbrev pub generated : ℕ → ℕ → ℕ → Scenario
 generated seed sessions txs =
-    record { format = 1; caches = caches; nodes = nodes; plan = plan; sessions = sessions_from 0 sessions txs (generator seed 7) }
+    record {
+      format = 1;
+      caches = caches;
+      nodes = nodes;
+      plan = plan;
+      sessions =
+          sessions_from 0 sessions txs (generator seed 7);
+    }

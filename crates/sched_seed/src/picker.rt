@@ -45,7 +45,8 @@ impl Picker {
         ensures rest { self.new ≡ after_pick self.old }
 
         // The picks of a picker are those of its seed, counted from 0.
-        ensures counted { (seed k : ℕ) → self.old ≡ picker_at seed k → (result ≡ pick seed k n) × (self.new ≡ picker_at seed (k + 1)) }
+        ensures counted { (seed k : ℕ) → self.old ≡ picker_at seed k → (result ≡ pick seed k n)
+            × (self.new ≡ picker_at seed (k + 1)) }
     {
         match &mut self.generator {
             Some(generator) => generator.next_word() % n,

@@ -11,5 +11,6 @@ use Rattle.ordered_table.specs.Entries.{put}
 use Rattle.ordered_table.specs.Places.{IsAscending}
 
 -- one entry more of the copy
-pub copied_more : (es : List (Key × Range)) (i : ℕ) (d : Key × Range) → IsAscending key_cmp es → i < length es → put key_cmp (take i es) (get_or es i d).0 (get_or es i d).1 ≡ take (i + 1) es
+pub copied_more : (es : List (Key × Range)) (i : ℕ) (d : Key × Range) → IsAscending key_cmp es → i < length es →
+    put key_cmp (take i es) (get_or es i d).0 (get_or es i d).1 ≡ take (i + 1) es
 copied_more = copies.copied_more key_cmp key_total

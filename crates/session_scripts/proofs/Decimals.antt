@@ -20,7 +20,8 @@ decimal_allowed = decimal_by_steps (λ n ds. allowed ds ≡ length ds)
     (λ n h. rw (digit_allowed n h) refl)
     (λ n ds l h. more ds (n % 10) (omega arith) h)
   where
-    more : (ds : List ℕ) (last : ℕ) → last < 10 → allowed ds ≡ length ds → allowed (ds ++ (48 + last) ∷ []) ≡ length (ds ++ (48 + last) ∷ [])
+    more : (ds : List ℕ) (last : ℕ) → last < 10 → allowed ds ≡ length ds →
+        allowed (ds ++ (48 + last) ∷ []) ≡ length (ds ++ (48 + last) ∷ [])
     more ds last h all =
         let same = eq-eqb (allowed ds) (length ds) all in
         let one : allowed ((48 + last) ∷ []) ≡ 1 = rw (digit_allowed last h) refl in
@@ -32,6 +33,9 @@ text_read bs some few all = grind (arith, nat_tests)
 -- a number of 64 bits is written as a value
 pub number_read : (z : ℤ) → mag z < 2 ^ 63 → value_of (signed_decimal z) ≡ Ok (signed_decimal z)
 number_read (pos n) h =
-    text_read (decimal n) (decimal_nonempty n (omega arith)) (omega (arith, length-decimal-le 20 n (omega arith) (omega arith) (omega arith))) (decimal_allowed n (omega arith))
+    text_read (decimal n) (decimal_nonempty n (omega arith))
+    (omega (arith, length-decimal-le 20 n (omega arith) (omega arith) (omega arith))) (decimal_allowed n (omega arith))
 number_read (negsuc n) h =
-    text_read (45 ∷ decimal (suc n)) (omega arith) (omega (arith, length-decimal-le 20 (suc n) (omega arith) (omega arith) (omega arith))) (omega (arith, decimal_allowed (suc n) (omega arith)))
+    text_read (45 ∷ decimal (suc n)) (omega arith)
+    (omega (arith, length-decimal-le 20 (suc n) (omega arith) (omega arith) (omega arith)))
+    (omega (arith, decimal_allowed (suc n) (omega arith)))

@@ -23,24 +23,30 @@ and_right : (a b : Bool) → (a && b) ≡ true → b ≡ true
 and_right true b h = h
 and_right false b h = absurd (cc h)
 
-picked_passes : {X : Type 0} (p : X → Bool) (xs : List X) (i : ℕ) (x : X) → list_all p xs ≡ true → slice_get xs i ≡ Some x → p x ≡ true
+picked_passes : {X : Type 0} (p : X → Bool) (xs : List X) (i : ℕ) (x : X) → list_all p xs ≡ true → slice_get xs i ≡ Some x →
+    p x ≡ true
 picked_passes p [] i x all at = absurd (cc at)
 picked_passes p (y ∷ ys) zero x all at =
     let same : y ≡ x = cc at in
     subst (λ v. p v ≡ true) same (and_left (p y) (list_all p ys) all)
 picked_passes p (y ∷ ys) (suc i) x all at = picked_passes p ys i x (and_right (p y) (list_all p ys) all) at
 
-pub after_append : (w : World) (gs : List Group) (g : Group) → world_after w (gs ++ g ∷ []) ≡ (outcome (world_after w gs) g.event).world
+pub after_append : (w : World) (gs : List Group) (g : Group) →
+    world_after w (gs ++ g ∷ []) ≡ (outcome (world_after w gs) g.event).world
 after_append w [] g = refl
 after_append w (h ∷ hs) g = after_append (outcome w h.event).world hs g
 
-pub steps_append : (w : World) (gs : List Group) (g : Group) → AreSteps w gs → IsStep (world_after w gs) g → AreSteps w (gs ++ g ∷ [])
+pub steps_append : (w : World) (gs : List Group) (g : Group) → AreSteps w gs → IsStep (world_after w gs) g →
+    AreSteps w (gs ++ g ∷ [])
 steps_append w [] g steps step = (step, tt)
 steps_append w (h ∷ hs) g steps step = (steps.0, steps_append (outcome w h.event).world hs g steps.1 step)
 
 -- one more picked event behind the others, whose number counts these
-picked_append : (seed k n : ℕ) (w : World) (gs : List Group) (g : Group) → n ≡ k + length gs → AllPicked seed k w gs → IsPicked (picks seed n (length (possible (world_after w gs)))) (world_after w gs) g.event → AllPicked seed k w (gs ++ g ∷ [])
-picked_append seed k n w [] g is all last = let e : n ≡ k = omega (arith, is) in (subst (λ (m : ℕ). IsPicked (picks seed m (length (possible w))) w g.event) e last, tt)
+picked_append : (seed k n : ℕ) (w : World) (gs : List Group) (g : Group) → n ≡ k + length gs → AllPicked seed k w gs →
+    IsPicked (picks seed n (length (possible (world_after w gs)))) (world_after w gs) g.event →
+    AllPicked seed k w (gs ++ g ∷ [])
+picked_append seed k n w [] g is all last = let e : n ≡ k = omega (arith, is) in
+    (subst (λ (m : ℕ). IsPicked (picks seed m (length (possible w))) w g.event) e last, tt)
 picked_append seed k n w (h ∷ hs) g is all last =
     (all.0, picked_append seed (k + 1) n (outcome w h.event).world hs g (omega (arith, is)) all.1 last)
 
@@ -52,7 +58,8 @@ are_picked seed k w (g ∷ gs) all = (inl all.0, are_picked seed (k + 1) (outcom
 pub follows_begun : (seed : ℕ) (s : Scenario) → Follows seed (run_begun s)
 follows_begun seed s = record { past = record { steps = tt; picked = tt }; now = refl; whole = refl }
 
-pub follows_stepped : (seed k : ℕ) (r : Run) (e : Event) → length r.past ≡ k → Follows seed r → slice_get (possible r.now) (picks seed k (length (possible r.now))) ≡ Some e → Follows seed (run_after r e)
+pub follows_stepped : (seed k : ℕ) (r : Run) (e : Event) → length r.past ≡ k → Follows seed r →
+    slice_get (possible r.now) (picks seed k (length (possible r.now))) ≡ Some e → Follows seed (run_after r e)
 follows_stepped seed k r e many h at =
     let g : Group = record { event = e; recs = (outcome r.now e).recs } in
     let may : may_be r.now e ≡ true = picked_passes (may_be r.now) (possible r.now) _ e (all_possible r.now) at in
@@ -70,14 +77,17 @@ follows_stepped seed k r e many h at =
     }
 
 -- by the picker that stands before this pick
-pub follows_next : (seed k : ℕ) (picker : Option Lcg) (r r' : Run) → picker ≡ picker_at seed k → length r.past ≡ k → Follows seed r → Advances picker r r' → Follows seed r'
+pub follows_next : (seed k : ℕ) (picker : Option Lcg) (r r' : Run) → picker ≡ picker_at seed k → length r.past ≡ k →
+    Follows seed r → Advances picker r r' → Follows seed r'
 follows_next seed k picker r r' at many h a =
     let n : ℕ = counted (length (possible r.now)) in
     let place : next_pick picker n ≡ pick seed k n = ap (λ (p : Option Lcg). next_pick p n) at ∙ (picks_at seed k n).0 in
-    let is : slice_get (possible r.now) (pick seed k n) ≡ Some a.event = subst (λ (i : ℕ). slice_get (possible r.now) i ≡ Some a.event) place a.picked in
+    let is : slice_get (possible r.now) (pick seed k n) ≡ Some a.event =
+    subst (λ (i : ℕ). slice_get (possible r.now) i ≡ Some a.event) place a.picked in
     subst (λ (x : Run). Follows seed x) (sym a.is) (follows_stepped seed k r a.event many h is)
 
-pub next_picker : (seed k : ℕ) (picker next : Option Lcg) → picker ≡ picker_at seed k → next ≡ after_pick picker → next ≡ picker_at seed (k + 1)
+pub next_picker : (seed k : ℕ) (picker next : Option Lcg) → picker ≡ picker_at seed k → next ≡ after_pick picker →
+    next ≡ picker_at seed (k + 1)
 next_picker seed k picker next at is = is ∙ ap after_pick at ∙ (picks_at seed k 0).1
 
 pub past_kept : (seed : ℕ) (r r' : Run) → Follows seed r → KeepsPast r r' → PastFollows seed r'
@@ -92,7 +102,8 @@ one_longer picker r r' n h a = rw a.is (simp length-append (omega (arith, h)))
 pub same_scenario : (picker : Option Lcg) (r r' : Run) → Advances picker r r' → r'.scenario ≡ r.scenario
 same_scenario picker r r' a = ap (λ (x : Run). x.scenario) a.is
 
-pub moved : (picker next : Option Lcg) (b : Bool) (r r' : Run) → b ≡ true → Moves picker next b r r' → Advances picker r r' × (next ≡ after_pick picker)
+pub moved : (picker next : Option Lcg) (b : Bool) (r r' : Run) → b ≡ true → Moves picker next b r r' → Advances picker r r'
+    × (next ≡ after_pick picker)
 moved picker next true r r' h m = m
 moved picker next false r r' h m = absurd (cc h)
 
@@ -110,10 +121,12 @@ inside_some [] i inside = absurd (omega (arith, inside))
 inside_some (x ∷ xs) i inside = rw (slice_get-get_or (x ∷ xs) i x inside) tt
 
 -- of some events one is picked
-pub picks_some : {X : Type 0} (picker : Option Lcg) (xs : List X) → 1 ≤ length xs → IfNone (slice_get xs (next_pick picker (counted (length xs)))) (xs ≡ [])
+pub picks_some : {X : Type 0} (picker : Option Lcg) (xs : List X) → 1 ≤ length xs →
+    IfNone (slice_get xs (next_pick picker (counted (length xs)))) (xs ≡ [])
 picks_some picker xs some =
     let bound : (1 ≤ counted (length xs)) × (counted (length xs) ≤ length xs) = counted_inside (length xs) some in
-    let inside : next_pick picker (counted (length xs)) < counted (length xs) = pick_inside picker (counted (length xs)) bound.0 in
+    let inside : next_pick picker (counted (length xs)) < counted (length xs) =
+    pick_inside picker (counted (length xs)) bound.0 in
     inside_some xs (next_pick picker (counted (length xs))) (omega (arith, bound, inside))
 
 pub some_of : {X : Type 0} (xs : List X) → (xs ≡ [] → IsTrue false) → 1 ≤ length xs

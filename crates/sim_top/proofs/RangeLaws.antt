@@ -17,7 +17,8 @@ if_some : {A : Type 0} (b : Bool) (x y : A) → (if b then Some x else None) ≡
 if_some true x y h = (refl, cc)
 if_some false x y h = absurd (cc)
 
-bind_some : {A B : Type 0} (o : Option A) (f : A → Option B) (y : B) → (o >>= f) ≡ Some y → (x : A) × (o ≡ Some x) × (f x ≡ Some y)
+bind_some : {A B : Type 0} (o : Option A) (f : A → Option B) (y : B) → (o >>= f) ≡ Some y → (x : A) × (o ≡ Some x)
+    × (f x ≡ Some y)
 bind_some None f y h = absurd (cc)
 bind_some (Some x) f y h = (x, refl, h)
 
@@ -27,12 +28,14 @@ map_some f (Some x) y h = let same : f x ≡ y = cc in (x, refl, same)
 
 at_most : (least most : ℕ) (text : Text) (n : ℕ) → number_in_range least most text ≡ Some n → n ≤ most
 at_most least most text n h =
-    let chosen = if_some (is_number_text text && (nat_le least (digits_value 10 text) && nat_le (digits_value 10 text) most)) (digits_value 10 text) n h in
+    let chosen = if_some (is_number_text text && (nat_le least (digits_value 10 text) && nat_le (digits_value 10 text) most))
+    (digits_value 10 text) n h in
     let parts = and_parts _ _ chosen.0 in
     let ends = and_parts _ _ parts.1 in
     subst (λ k. k ≤ most) chosen.1 (leb-true _ _ ends.1)
 
-at_most_or : (default least most : ℕ) (text : Option Text) (n : ℕ) → default ≤ most → number_or default least most text ≡ Some n → n ≤ most
+at_most_or : (default least most : ℕ) (text : Option Text) (n : ℕ) → default ≤ most →
+    number_or default least most text ≡ Some n → n ≤ most
 at_most_or default least most None n fits h = let same : default ≡ n = cc in subst (λ k. k ≤ most) same fits
 at_most_or default least most (Some text) n fits h = at_most least most text n h
 
@@ -48,7 +51,8 @@ made_range (Some sessions) txs make h =
     let same : record { sessions = count.0; txs = each.0 } ≡ make = (let e = each.2 in cc) in
     subst InRange same (at_most 1 64 sessions count.0 count.1, at_most_or 20 1 100 txs each.0 (omega arith) each.1)
 
-asked_range : (seed steps make txs : Option Text) (trace json : Bool) (w : SimWords) (m : Make) → words.words_asked seed steps make txs trace json ≡ Some w → w.make ≡ Some m → InRange m
+asked_range : (seed steps make txs : Option Text) (trace json : Bool) (w : SimWords) (m : Make) →
+    words.words_asked seed steps make txs trace json ≡ Some w → w.make ≡ Some m → InRange m
 asked_range seed steps make txs trace json w m h is =
     let first = bind_some (number_or 0 0 18446744073709551615 seed) _ w h in
     let most = bind_some (number_or 1000000 1 4000000 steps) _ w first.2 in
@@ -59,7 +63,8 @@ asked_range seed steps make txs trace json w m h is =
 
 given_range : (given : Given) (w : SimWords) (m : Make) → asked_by given ≡ Some w → w.make ≡ Some m → InRange m
 given_range given w m h is =
-    asked_range (value_given name.seed given) (value_given name.steps given) (value_given name.make given) (value_given name.txs given) (is_given name.trace given) (is_given name.json given) w m h is
+    asked_range (value_given name.seed given) (value_given name.steps given) (value_given name.make given)
+    (value_given name.txs given) (is_given name.trace given) (is_given name.json given) w m h is
 
 line_range : (texts : List Text) (w : SimWords) (m : Make) → line texts ≡ Some w → w.make ≡ Some m → InRange m
 line_range texts w m h is = let given = bind_some (options [] None texts) asked_by w h in given_range given.0 w m given.2 is
@@ -69,7 +74,8 @@ read_range true trace = tt
 read_range false true = tt
 read_range false false = tt
 
-form_range : (json trace : Bool) (make : Option Make) → ((m : Make) → make ≡ Some m → InRange m) → HasRange (made_or (read_form json trace) make)
+form_range : (json trace : Bool) (make : Option Make) → ((m : Make) → make ≡ Some m → InRange m) →
+    HasRange (made_or (read_form json trace) make)
 form_range json trace None ranges = read_range json trace
 form_range json trace (Some m) ranges = ranges m refl
 
@@ -78,4 +84,5 @@ pub asked_has_range : (texts : List Text) (o : Options) → options_asked texts 
 asked_has_range texts o h =
     let found = map_some options_from (line texts) o h in
     let w = found.0 in
-    subst (λ (x : Options). HasRange x.form) found.2 (form_range w.json w.trace w.make (λ m is. line_range texts w m found.1 is))
+    subst (λ (x : Options). HasRange x.form) found.2
+    (form_range w.json w.trace w.make (λ m is. line_range texts w m found.1 is))

@@ -32,16 +32,20 @@ from_both true b x y = y
 from_both false b x y = x
 
 -- of events of one kind, that is neither a tick nor a want of memory, each possible one may come
-all_of_kind : {X : Type 0} (w : World) (kind : X → Event) (xs : List X) → ((x : X) → is_tick (kind x) ≡ false) → ((x : X) → is_memory (kind x) ≡ false) → list_all (may_be w) (possible_of w (map kind xs)) ≡ true
+all_of_kind : {X : Type 0} (w : World) (kind : X → Event) (xs : List X) → ((x : X) → is_tick (kind x) ≡ false) →
+    ((x : X) → is_memory (kind x) ≡ false) → list_all (may_be w) (possible_of w (map kind xs)) ≡ true
 all_of_kind w kind [] no_tick no_memory = refl
 all_of_kind w kind (x ∷ xs) no_tick no_memory =
     let rest : list_all (may_be w) (possible_of w (map kind xs)) ≡ true = all_of_kind w kind xs no_tick no_memory in
-    elim (can_be w (kind x)) as (λ b. can_be w (kind x) ≡ b → list_all (may_be w) (cond b (kind x ∷ possible_of w (map kind xs)) (possible_of w (map kind xs))) ≡ true) [
-      | true ↦ λ e. from_both (may_be w (kind x)) (list_all (may_be w) (possible_of w (map kind xs))) (rw (e, no_tick x, no_memory x) refl) rest
+    elim (can_be w (kind x)) as (λ b. can_be w (kind x) ≡ b →
+    list_all (may_be w) (cond b (kind x ∷ possible_of w (map kind xs)) (possible_of w (map kind xs))) ≡ true) [
+      | true ↦ λ e. from_both (may_be w (kind x)) (list_all (may_be w) (possible_of w (map kind xs)))
+          (rw (e, no_tick x, no_memory x) refl) rest
       | false ↦ λ e. rest
     ] refl
 
-both_parts : (w : World) (xs ys : List Event) → list_all (may_be w) xs ≡ true → list_all (may_be w) ys ≡ true → list_all (may_be w) (xs ++ ys) ≡ true
+both_parts : (w : World) (xs ys : List Event) → list_all (may_be w) xs ≡ true → list_all (may_be w) ys ≡ true →
+    list_all (may_be w) (xs ++ ys) ≡ true
 both_parts w xs ys a b = list_all-append (may_be w) xs ys ∙ from_both (list_all (may_be w) xs) (list_all (may_be w) ys) a b
 
 all_acts : (w : World) (senders nodes : List NodeId) → list_all (may_be w) (possible_acts w senders nodes) ≡ true
@@ -63,7 +67,8 @@ all_node_events w =
     (both_parts w (answers ++ acts ++ sends ++ seen) expired
     (both_parts w (answers ++ acts ++ sends) seen
     (both_parts w (answers ++ acts) sends
-    (both_parts w answers acts (all_of_kind w event.Answer (sessions w) (λ s. refl) (λ s. refl)) (all_acts w (node_ids w) (node_ids w)))
+    (both_parts w answers acts (all_of_kind w event.Answer (sessions w) (λ s. refl) (λ s. refl))
+    (all_acts w (node_ids w) (node_ids w)))
     (all_of_kind w event.Send (node_ids w) (λ id. refl) (λ id. refl)))
     (all_of_kind w event.See (node_ids w) (λ id. refl) (λ id. refl)))
     (all_of_kind w event.Expire (open_txs w) (λ tx. refl) (λ tx. refl)))
@@ -82,7 +87,8 @@ all_unless : (w : World) (broken : Bool) → list_all (may_be w) (unless_broken 
 all_unless w true = refl
 all_unless w false =
     both_parts w (node_events w ++ plan_events w) (tick_events w (is_quiet w))
-    (both_parts w (node_events w) (plan_events w) (all_node_events w) (all_of_kind w (λ (x : ℕ). event.Plan) (0 ∷ []) (λ x. refl) (λ x. refl)))
+    (both_parts w (node_events w) (plan_events w) (all_node_events w) (all_of_kind w (λ (x : ℕ). event.Plan) (0 ∷ [])
+    (λ x. refl) (λ x. refl)))
     (all_ticks w (is_quiet w) refl)
 
 -- each possible event may come
@@ -112,27 +118,33 @@ no_memory_of w e may =
 
 -- What an event leaves whole.
 
-either_whole : (b : Bool) (x y : Outcome) (v : Bool) → x.world.broken ≡ v → y.world.broken ≡ v → (if b then x else y).world.broken ≡ v
+either_whole : (b : Bool) (x y : Outcome) (v : Bool) → x.world.broken ≡ v → y.world.broken ≡ v →
+    (if b then x else y).world.broken ≡ v
 either_whole true x y v p q = p
 either_whole false x y v p q = q
 
-answers_whole : (w : World) (session : ℕ) (place : Option ℕ) (p : Option Part) → (answer_outcome w session place p).world.broken ≡ w.broken
+answers_whole : (w : World) (session : ℕ) (place : Option ℕ) (p : Option Part) →
+    (answer_outcome w session place p).world.broken ≡ w.broken
 answers_whole w session (Some place) (Some p) =
-    either_whole (may_answer p.node session) (outcome_of_act (with_directory w _) place p (answer_act p.node session)) (unchanged w) w.broken refl refl
+    either_whole (may_answer p.node session) (outcome_of_act (with_directory w _) place p (answer_act p.node session))
+    (unchanged w) w.broken refl refl
 answers_whole w session (Some place) None = refl
 answers_whole w session None p = refl
 
-taken_whole : (w : World) (place : ℕ) (p : Part) (inbox : Inbox) (from : NodeId) (m : Option Message) → (act_outcome_from w place p inbox from m).world.broken ≡ w.broken
+taken_whole : (w : World) (place : ℕ) (p : Part) (inbox : Inbox) (from : NodeId) (m : Option Message) →
+    (act_outcome_from w place p inbox from m).world.broken ≡ w.broken
 taken_whole w place p inbox from None = refl
 taken_whole w place p inbox from (Some m) = refl
 
-takes_whole : (w : World) (from : NodeId) (place : Option ℕ) (p : Option Part) (inbox : Option Inbox) → (act_outcome w from place p inbox).world.broken ≡ w.broken
+takes_whole : (w : World) (from : NodeId) (place : Option ℕ) (p : Option Part) (inbox : Option Inbox) →
+    (act_outcome w from place p inbox).world.broken ≡ w.broken
 takes_whole w from (Some place) (Some p) (Some inbox) = taken_whole w place p inbox from (oldest_in inbox from)
 takes_whole w from (Some place) (Some p) None = refl
 takes_whole w from (Some place) None inbox = refl
 takes_whole w from None p inbox = refl
 
-reaches_whole : (w : World) (from : NodeId) (m : Message) (place : Option ℕ) (inbox : Option Inbox) → (with_inbox_push w from m place inbox).broken ≡ w.broken
+reaches_whole : (w : World) (from : NodeId) (m : Message) (place : Option ℕ) (inbox : Option Inbox) →
+    (with_inbox_push w from m place inbox).broken ≡ w.broken
 reaches_whole w from m (Some place) (Some inbox) = refl
 reaches_whole w from m (Some place) None = refl
 reaches_whole w from m None inbox = refl
@@ -155,7 +167,8 @@ sees_whole w (Some place) (Some p) = seen_whole w place p _
 sees_whole w (Some place) None = refl
 sees_whole w None p = refl
 
-expires_whole : (w : World) (tx : TxId) (place : Option ℕ) (p : Option Part) → (expire_outcome w tx place p).world.broken ≡ w.broken
+expires_whole : (w : World) (tx : TxId) (place : Option ℕ) (p : Option Part) → (expire_outcome w tx place p).world.broken
+    ≡ w.broken
 expires_whole w tx (Some place) (Some p) = refl
 expires_whole w tx (Some place) None = refl
 expires_whole w tx None p = refl
@@ -165,12 +178,14 @@ switches_whole w (Some place) (Some p) = refl
 switches_whole w (Some place) None = refl
 switches_whole w None p = refl
 
-calls_whole : (w : World) (session : ℕ) (place : Option ℕ) (p : Option Part) → (call_outcome w session place p).world.broken ≡ w.broken
+calls_whole : (w : World) (session : ℕ) (place : Option ℕ) (p : Option Part) → (call_outcome w session place p).world.broken
+    ≡ w.broken
 calls_whole w session (Some place) (Some p) = refl
 calls_whole w session (Some place) None = refl
 calls_whole w session None p = refl
 
-joins_whole : (w : World) (member : Member) (d : Directory) (place : Option ℕ) (p : Option Part) → (join_outcome w member d place p).world.broken ≡ w.broken
+joins_whole : (w : World) (member : Member) (d : Directory) (place : Option ℕ) (p : Option Part) →
+    (join_outcome w member d place p).world.broken ≡ w.broken
 joins_whole w member d (Some place) (Some p) = refl
 joins_whole w member d (Some place) None = refl
 joins_whole w member d None p = refl
@@ -180,11 +195,14 @@ shut_whole w (Some place) (Some inbox) = refl
 shut_whole w (Some place) None = refl
 shut_whole w None inbox = refl
 
-loses_whole : (w : World) (id : NodeId) (d : Directory) (refused : Option NoLoss) → (loss_outcome w id d refused).world.broken ≡ w.broken
+loses_whole : (w : World) (id : NodeId) (d : Directory) (refused : Option NoLoss) → (loss_outcome w id d refused).world.broken
+    ≡ w.broken
 loses_whole w id d (Some refused) = refl
-loses_whole w id d None = let emptied = record w { inboxes = inboxes_emptied id w.inboxes } in shut_whole emptied (place_of w id) (inbox_on emptied (place_of w id))
+loses_whole w id d None = let emptied = record w { inboxes = inboxes_emptied id w.inboxes } in
+    shut_whole emptied (place_of w id) (inbox_on emptied (place_of w id))
 
-link_whole : (w : World) (from : NodeId) (held : Bool) (place : Option ℕ) (inbox : Option Inbox) → (with_link_held w from held place inbox).broken ≡ w.broken
+link_whole : (w : World) (from : NodeId) (held : Bool) (place : Option ℕ) (inbox : Option Inbox) →
+    (with_link_held w from held place inbox).broken ≡ w.broken
 link_whole w from held (Some place) (Some inbox) = refl
 link_whole w from held (Some place) None = refl
 link_whole w from held None inbox = refl
@@ -207,13 +225,16 @@ ticks_whole w (Some to) = refl
 
 -- an event that is no want of memory leaves the world as whole as it was
 pub whole_after : (w : World) (e : Event) → is_memory e ≡ false → (outcome w e).world.broken ≡ w.broken
-whole_after w (event.Answer session) none = answers_whole w session (live_session_place w session) (part_on w (live_session_place w session))
-whole_after w (event.Act id from) none = takes_whole w from (live_place w id) (part_on w (live_place w id)) (inbox_on w (live_place w id))
+whole_after w (event.Answer session) none = answers_whole w session (live_session_place w session)
+    (part_on w (live_session_place w session))
+whole_after w (event.Act id from) none = takes_whole w from (live_place w id) (part_on w (live_place w id))
+    (inbox_on w (live_place w id))
 whole_after w (event.Send id) none = sends_whole w (live_place w id) (part_on w (live_place w id))
 whole_after w (event.See id) none = sees_whole w (live_place w id) (part_on w (live_place w id))
 whole_after w (event.Expire tx) none = expires_whole w tx (live_place w tx.node) (part_on w (live_place w tx.node))
 whole_after w (event.Minor id) none = switches_whole w (live_place w id) (part_on w (live_place w id))
-whole_after w (event.Call session) none = calls_whole w session (live_session_place w session) (part_on w (live_session_place w session))
+whole_after w (event.Call session) none = calls_whole w session (live_session_place w session)
+    (part_on w (live_session_place w session))
 whole_after w event.Plan none = plans_whole w (next_step w.directory)
 whole_after w event.Tick none = ticks_whole w (least_moment w)
 whole_after w (event.Memory id) none = absurd (cc none)

@@ -50,7 +50,8 @@ pub record MetLimit (o : Options) (j : Journal) : Type 0 where
   pub many : length j.groups ≡ o.steps
   pub more : possible (world_after (opening j.scenario) j.groups) ≢ []
 
--- the journal is the machine's own, and follows the schedule of the seed; of a good scenario it keeps what is proved of every run
+-- the journal is the machine's own, and follows the schedule of the seed; of a good scenario it keeps what is proved of every
+-- run
 pub record Follow (o : Options) (j : Journal) : Type 0 where
   pub legal : IsLegal j
   pub schedule : IsScheduled (picks o.seed) j

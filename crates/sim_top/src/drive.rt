@@ -56,7 +56,8 @@ pub fn drive(world: &mut World, options: Options) -> Mem<bool>
     requires fresh { world.old.past ≡ [] }
     ensures scenario { world.new.scenario ≡ world.old.scenario }
     ensures follows { OnOk result (Follows options.seed world.new) }
-    ensures ended { IfOk result (λ more. MatchBool more ((length world.new.past ≡ options.steps) × (possible world.new.now ≢ [])) (possible world.new.now ≡ [])) }
+    ensures ended { IfOk result (λ more. MatchBool more ((length world.new.past ≡ options.steps)
+        × (possible world.new.now ≢ [])) (possible world.new.now ≡ [])) }
     ensures err { OnErr result (PastFollows options.seed world.new) }
 {
     let mut picker = Picker::new(options.seed);

@@ -221,7 +221,13 @@ fn meaning(alloc: Global, bytes: &[u8], options: Options) -> Said
 
 /// What reading a scenario from this source and running it comes to.
 fn read_said<S: Source>(alloc: Global, options: Options, source: &mut S) -> Said
-    ensures { ReadSays options (record { before = S.left source.old; after = S.left source.new; faults_before = S.faults source.old; faults_after = S.faults source.new }) result.status result.journal result.text.items }
+    ensures { ReadSays options (record {
+      before = S.left source.old;
+      after = S.left source.new;
+      faults_before =
+          S.faults source.old;
+      faults_after = S.faults source.new;
+    }) result.status result.journal result.text.items }
 {
     match read_all(alloc, source) {
         Ok(bytes) => meaning(alloc, bytes.as_slice(), options),
@@ -246,7 +252,13 @@ fn made_said(alloc: Global, options: Options, make: Make) -> Said
 /// What the run comes to that these options ask for.
 fn asked_said<S: Source>(alloc: Global, options: Options, source: &mut S) -> Said
     requires { HasRange options.form }
-    ensures { SaysIn options.form options (record { before = S.left source.old; after = S.left source.new; faults_before = S.faults source.old; faults_after = S.faults source.new }) result.status result.journal result.text.items }
+    ensures { SaysIn options.form options (record {
+      before = S.left source.old;
+      after = S.left source.new;
+      faults_before =
+          S.faults source.old;
+      faults_after = S.faults source.new;
+    }) result.status result.journal result.text.items }
 {
     match options.form {
         Form::Report => read_said(alloc, options, source),
@@ -258,7 +270,13 @@ fn asked_said<S: Source>(alloc: Global, options: Options, source: &mut S) -> Sai
 
 /// What a call comes to with these words and this source.
 pub fn say<S: Source>(alloc: Global, words: &[String], source: &mut S) -> Said
-    ensures { Comes (map string_bytes words.now) (record { before = S.left source.old; after = S.left source.new; faults_before = S.faults source.old; faults_after = S.faults source.new }) result.status result.journal result.text.items }
+    ensures { Comes (map string_bytes words.now) (record {
+      before = S.left source.old;
+      after = S.left source.new;
+      faults_before = S.faults source.old;
+      faults_after = S.faults source.new;
+    }) result.status result.journal
+        result.text.items }
 {
     match options_of(alloc, words) {
         Ok(options) => asked_said(alloc, options, source),

@@ -29,8 +29,10 @@ same_items [] = refl
 same_items (x ∷ xs) = ap (λ r. x ∷ r) (same_items xs)
 
 -- a list that has the pair of each entry is seen as the pairs
-pub listed : (vs : List Value) (ys es : List (String Global × Value)) → map view vs ≡ map entry_pair ys → map (λ x. x) ys ≡ es → items_view vs ≡ pairs (members_view es)
-listed vs ys es is all = ap items_of is ∙ ap (λ xs. items_of (map entry_pair xs)) (sym (same_items ys) ∙ all) ∙ sym (pairs_of_entries es)
+pub listed : (vs : List Value) (ys es : List (String Global × Value)) → map view vs ≡ map entry_pair ys →
+    map (λ x. x) ys ≡ es → items_view vs ≡ pairs (members_view es)
+listed vs ys es is all = ap items_of is ∙ ap (λ xs. items_of (map entry_pair xs)) (sym (same_items ys) ∙ all)
+    ∙ sym (pairs_of_entries es)
 
 -- the commits as a list
 abbrev pub commit_list : Scenario → List CommitEntry → List Data
@@ -48,9 +50,11 @@ nothing_left (x ∷ xs) zero h = absurd (omega (arith, h))
 nothing_left (x ∷ xs) (suc i) h = nothing_left xs i (omega (arith, h))
 
 -- a list that has all commits
-pub commits_done : (s : Scenario) (vs : List Value) (es : List CommitEntry) (i : ℕ) → length es ≤ i → map view vs ++ commit_list s (drop i es) ≡ commit_list s es → items_view vs ≡ commits_data s es
+pub commits_done : (s : Scenario) (vs : List Value) (es : List CommitEntry) (i : ℕ) → length es ≤ i →
+    map view vs ++ commit_list s (drop i es) ≡ commit_list s es → items_view vs ≡ commits_data s es
 commits_done s vs es i past is =
-    let all : map view vs ≡ commit_list s es = sym (append-nil (map view vs)) ∙ ap (λ rest. map view vs ++ commit_list s rest) (sym (nothing_left es i past)) ∙ is in
+    let all : map view vs ≡ commit_list s es = sym (append-nil (map view vs)) ∙ ap (λ rest. map view vs ++ commit_list s rest)
+    (sym (nothing_left es i past)) ∙ is in
     ap items_of all ∙ items_of_commits s es
 
 -- No float is among what is written.
@@ -59,19 +63,23 @@ value_plain : (v : Option (List ℕ)) → has_float (value_data v) ≡ false
 value_plain None = refl
 value_plain (Some v) = refl
 
-put_plain : (k : List ℕ) (d : Data) (ms : Members) → has_float d ≡ false → members_have_float ms ≡ false → members_have_float (put k d ms) ≡ false
+put_plain : (k : List ℕ) (d : Data) (ms : Members) → has_float d ≡ false → members_have_float ms ≡ false →
+    members_have_float (put k d ms) ≡ false
 put_plain k d no_members plain rest = rw plain refl
 put_plain k d (member l e ms) plain rest =
     let parts = or_parts (has_float e) (members_have_float ms) rest in
-    elim (slice_cmp nat_cmp k l) as (λ o. members_have_float (match_ordering o (member k d (member l e ms)) (member l d ms) (member l e (put k d ms))) ≡ false) [
+    elim (slice_cmp nat_cmp k l) as (λ o. members_have_float (match_ordering o (member k d (member l e ms)) (member l d ms)
+    (member l e (put k d ms))) ≡ false) [
       | Less ↦ or_from _ _ plain rest
       | Equal ↦ or_from _ _ plain parts.1
       | Greater ↦ or_from _ _ parts.0 (put_plain k d ms plain parts.1)
     ]
 
-by_text_plain : (s : Scenario) (cs : List (Key × Option (List ℕ))) (ms : Members) → members_have_float ms ≡ false → members_have_float (by_text s ms cs) ≡ false
+by_text_plain : (s : Scenario) (cs : List (Key × Option (List ℕ))) (ms : Members) → members_have_float ms ≡ false →
+    members_have_float (by_text s ms cs) ≡ false
 by_text_plain s [] ms plain = plain
-by_text_plain s (c ∷ cs) ms plain = by_text_plain s cs _ (put_plain (characters (key_text s c.0)) (value_data c.1) ms (value_plain c.1) plain)
+by_text_plain s (c ∷ cs) ms plain =
+    by_text_plain s cs _ (put_plain (characters (key_text s c.0)) (value_data c.1) ms (value_plain c.1) plain)
 
 pair_plain : (k : List ℕ) (d : Data) → has_float d ≡ false → has_float (pair_data k d) ≡ false
 pair_plain k d plain = rw plain refl
@@ -93,4 +101,5 @@ commits_plain s [] = refl
 commits_plain s (e ∷ es) = or_from _ _ (commit_plain s e) (commits_plain s es)
 
 pub history_plain : (s : Scenario) (commits : List CommitEntry) → has_float (history_data s commits) ≡ false
-history_plain s commits = or_from _ _ (commits_plain s commits) (or_from _ _ (changes_plain s (present_pairs (map_after_commits [] commits))) refl)
+history_plain s commits =
+    or_from _ _ (commits_plain s commits) (or_from _ _ (changes_plain s (present_pairs (map_after_commits [] commits))) refl)

@@ -61,7 +61,8 @@ fn put_change(
     key: &Key,
     value: &Option<Bytes>,
 ) -> Mem<()>
-    ensures { OnOk result (members_view members.new.entries ≡ put (json.characters (key_text scenario.now key.now)) (json.value_data value.now) (members_view members.old.entries)) }
+    ensures { OnOk result (members_view members.new.entries ≡ put (json.characters (key_text scenario.now key.now))
+        (json.value_data value.now) (members_view members.old.entries)) }
 {
     let name = key_name(alloc, scenario, key)?;
     let value = value_json(alloc, value)?;
@@ -161,7 +162,8 @@ fn present(alloc: Global, entries: &[(Key, Bytes)]) -> Mem<List<(Key, Option<Byt
 
 /// The map that the commits leave, as a list of pairs.
 fn map_json(alloc: Global, scenario: &Scenario, commits: &[CommitEntry]) -> Mem<Value>
-    ensures { IfOk result (λ list. view list ≡ json.changes_data scenario.now (json.present_pairs (history.map_after_commits [] commits.now))) }
+    ensures { IfOk result (λ list. view list ≡ json.changes_data scenario.now
+        (json.present_pairs (history.map_after_commits [] commits.now))) }
 {
     let map = map_after(alloc, commits)?;
     let changes = present(alloc, map.as_slice())?;

@@ -56,7 +56,8 @@ fn commits_told(alloc: Global, script: &[Item], tolds: &[Told]) -> Mem<List<Told
 
 /// What the commit commands of a session were told, which has this number.
 fn session_told(alloc: Global, given: &[Given], number: usize, session: &Session) -> Mem<List<Told>>
-    ensures { IfOk result (λ found. found ≡ summaries.commits_told session.now.commands (sessions.all_told session.now.commands no_progress (sessions.answers_given_to number given.now))) }
+    ensures { IfOk result (λ found. found ≡ summaries.commits_told session.now.commands
+        (sessions.all_told session.now.commands no_progress (sessions.answers_given_to number given.now))) }
 {
     let answers = answers_to(alloc, number, given)?;
     let tolds = all_told(alloc, session.commands.as_slice(), answers.as_slice())?;

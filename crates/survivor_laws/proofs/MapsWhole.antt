@@ -55,13 +55,15 @@ use Rattle.ignite_types.specs.declared.journal.TopoEvent.TheVariants as topo
 with_keeps : (xs : List ℕ) (k : ℕ) → list_any (nat_eq 0) xs ≡ true → list_any (nat_eq 0) (with_member nat_cmp xs k) ≡ true
 with_keeps [] k some = absurd (cc (some))
 with_keeps (x ∷ xs) k some =
-    elim (nat_cmp k x) as (λ r. list_any (nat_eq 0) (match_ordering r (k ∷ x ∷ xs) (x ∷ xs) (x ∷ with_member nat_cmp xs k)) ≡ true) [
+    elim (nat_cmp k x) as (λ r. list_any (nat_eq 0) (match_ordering r (k ∷ x ∷ xs) (x ∷ xs) (x ∷ with_member nat_cmp xs k))
+    ≡ true) [
       | Less ↦ or_second (nat_eq 0 k) (list_any (nat_eq 0) (x ∷ xs)) some
       | Equal ↦ some
       | Greater ↦ later (λ rest. with_keeps xs k rest) (nat_eq 0 x) some
     ]
   where
-    later : (list_any (nat_eq 0) xs ≡ true → list_any (nat_eq 0) (with_member nat_cmp xs k) ≡ true) → (c : Bool) → (c || list_any (nat_eq 0) xs) ≡ true → (c || list_any (nat_eq 0) (with_member nat_cmp xs k)) ≡ true
+    later : (list_any (nat_eq 0) xs ≡ true → list_any (nat_eq 0) (with_member nat_cmp xs k) ≡ true) → (c : Bool) →
+        (c || list_any (nat_eq 0) xs) ≡ true → (c || list_any (nat_eq 0) (with_member nat_cmp xs k)) ≡ true
     later goes true here = refl
     later goes false rest = goes rest
 
@@ -76,10 +78,12 @@ equal_is k x is =
           ]) refl e
     ]) is
 
-without_keeps : (xs : List ℕ) (k : ℕ) → nat_eq 0 k ≡ false → list_any (nat_eq 0) xs ≡ true → list_any (nat_eq 0) (without_member nat_cmp xs k) ≡ true
+without_keeps : (xs : List ℕ) (k : ℕ) → nat_eq 0 k ≡ false → list_any (nat_eq 0) xs ≡ true →
+    list_any (nat_eq 0) (without_member nat_cmp xs k) ≡ true
 without_keeps [] k other some = absurd (cc (some))
 without_keeps (x ∷ xs) k other some =
-    elim (nat_cmp k x) as (λ r. nat_cmp k x ≡ r → list_any (nat_eq 0) (match_ordering r (x ∷ xs) xs (x ∷ without_member nat_cmp xs k)) ≡ true) [
+    elim (nat_cmp k x) as (λ r. nat_cmp k x ≡ r →
+    list_any (nat_eq 0) (match_ordering r (x ∷ xs) xs (x ∷ without_member nat_cmp xs k)) ≡ true) [
       | Less ↦ λ g. some
       | Equal ↦ λ g. gone (nat_eq 0 x) (ap (nat_eq 0) (sym (equal_is k x g)) ∙ other) some
       | Greater ↦ λ g. later (λ rest. without_keeps xs k other rest) (nat_eq 0 x) some
@@ -89,11 +93,13 @@ without_keeps (x ∷ xs) k other some =
     gone true is here = absurd (cc (is))
     gone false is rest = rest
 
-    later : (list_any (nat_eq 0) xs ≡ true → list_any (nat_eq 0) (without_member nat_cmp xs k) ≡ true) → (c : Bool) → (c || list_any (nat_eq 0) xs) ≡ true → (c || list_any (nat_eq 0) (without_member nat_cmp xs k)) ≡ true
+    later : (list_any (nat_eq 0) xs ≡ true → list_any (nat_eq 0) (without_member nat_cmp xs k) ≡ true) → (c : Bool) →
+        (c || list_any (nat_eq 0) xs) ≡ true → (c || list_any (nat_eq 0) (without_member nat_cmp xs k)) ≡ true
     later goes true here = refl
     later goes false rest = goes rest
 
-zero_runs : (s : Scenario) (t : Topology) (es : List TopoEvent) → list_any (nat_eq 0) t.running ≡ true → HoldsOfEach (EventFits s) es → list_any (nat_eq 0) (last_topology t es).running ≡ true
+zero_runs : (s : Scenario) (t : Topology) (es : List TopoEvent) → list_any (nat_eq 0) t.running ≡ true →
+    HoldsOfEach (EventFits s) es → list_any (nat_eq 0) (last_topology t es).running ≡ true
 zero_runs s t [] runs fits = runs
 zero_runs s t (e ∷ es) runs fits = zero_runs s (topology_after t e) es (by e fits.0) fits.1
   where
@@ -135,18 +141,26 @@ in_front c cs ordered some = by c.first refl
       where
         stuck : c.first ≡ false → ⊥
         stuck off =
-            let one = first_rest (has_cache_line c || (has_data_line c && not (list_any has_cache_line cs)) || (is_started c && list_all is_started cs)) (in_order cs) ordered in
-            let alone : (is_started c && list_all is_started cs) ≡ true = subst (λ (b : Bool). ((b && not c.«data») || ((b && c.«data») && not (list_any has_cache_line cs)) || (is_started c && list_all is_started cs)) ≡ true) off one.0 in
+            let one = first_rest (has_cache_line c || (has_data_line c && not (list_any has_cache_line cs))
+            || (is_started c && list_all is_started cs)) (in_order cs) ordered in
+            let alone : (is_started c && list_all is_started cs) ≡ true =
+            subst (λ (b : Bool). ((b && not c.«data») || ((b && c.«data») && not (list_any has_cache_line cs))
+            || (is_started c && list_all is_started cs)) ≡ true) off one.0 in
             let started = first_rest (is_started c) (list_all is_started cs) alone in
             let none = no_line cs started.1 in
-            let later : list_any has_cache_line cs ≡ true = subst (λ (b : Bool). ((b && not c.«data») || list_any has_cache_line cs) ≡ true) off some in
+            let later : list_any has_cache_line cs ≡ true =
+            subst (λ (b : Bool). ((b && not c.«data») || list_any has_cache_line cs) ≡ true) off some in
             absurd (cc (none, later))
 
 first_cache : (caches : List Cache) → good_caches caches ≡ true → FirstCache caches
 first_cache caches is =
-    let a = first_rest (list_all good_cache caches && in_order caches && list_any has_cache_line caches && are_distinct same_cache_name caches && nat_le (length caches) CACHES) (nat_le (sum_by (λ cache. cache.parts) caches) PARTITIONS) is in
-    let b = first_rest (list_all good_cache caches && in_order caches && list_any has_cache_line caches && are_distinct same_cache_name caches) (nat_le (length caches) CACHES) a.0 in
-    let c = first_rest (list_all good_cache caches && in_order caches && list_any has_cache_line caches) (are_distinct same_cache_name caches) b.0 in
+    let a = first_rest (list_all good_cache caches && in_order caches && list_any has_cache_line caches
+    && are_distinct same_cache_name caches && nat_le (length caches) CACHES)
+    (nat_le (sum_by (λ cache. cache.parts) caches) PARTITIONS) is in
+    let b = first_rest (list_all good_cache caches && in_order caches && list_any has_cache_line caches
+    && are_distinct same_cache_name caches) (nat_le (length caches) CACHES) a.0 in
+    let c = first_rest (list_all good_cache caches && in_order caches && list_any has_cache_line caches)
+    (are_distinct same_cache_name caches) b.0 in
     let d = first_rest (list_all good_cache caches && in_order caches) (list_any has_cache_line caches) c.0 in
     let e = first_rest (list_all good_cache caches) (in_order caches) d.0 in
     by caches e.0 e.1 d.1
@@ -155,55 +169,75 @@ first_cache caches is =
     some_parts zero within = absurd (cc (within))
     some_parts (suc k) within = (k, refl)
 
-    by : (cs : List Cache) → list_all good_cache cs ≡ true → in_order cs ≡ true → list_any has_cache_line cs ≡ true → FirstCache cs
+    by : (cs : List Cache) → list_all good_cache cs ≡ true → in_order cs ≡ true → list_any has_cache_line cs ≡ true →
+        FirstCache cs
     by [] each ordered some = absurd (cc (some))
     by (x ∷ xs) each ordered some =
         let one = first_rest (good_cache x) (list_all good_cache xs) each in
-        let near = first_rest (is_name x.name && is_within 1 PARTITIONS x.parts && nat_le x.backups BACKUPS) (nat_le x.near NEAR_ENTRIES) one.0 in
+        let near = first_rest (is_name x.name && is_within 1 PARTITIONS x.parts && nat_le x.backups BACKUPS)
+        (nat_le x.near NEAR_ENTRIES) one.0 in
         let backups = first_rest (is_name x.name && is_within 1 PARTITIONS x.parts) (nat_le x.backups BACKUPS) near.0 in
         let parts = some_parts x.parts (first_rest (is_name x.name) (is_within 1 PARTITIONS x.parts) backups.0).1 in
         record { cache = x; more = xs; are = refl; runs = in_front x xs ordered some; parts = parts.0; has_parts = parts.1 }
 
 -- a row that is owned stands in front where cache 0 runs
-owned_row : (running : List ℕ) (caches : List Cache) (rows : List Row) (f : FirstCache caches) → list_any (nat_eq 0) running ≡ true → owned_where_run running 0 caches rows ≡ true → (row : Row) × (rest : List Row) × (rows ≡ row ∷ rest) × (has_owner row ≡ true)
+owned_row : (running : List ℕ) (caches : List Cache) (rows : List Row) (f : FirstCache caches) →
+    list_any (nat_eq 0) running ≡ true → owned_where_run running 0 caches rows ≡ true → (row : Row) × (rest : List Row)
+    × (rows ≡ row ∷ rest) × (has_owner row ≡ true)
 owned_row running caches rows f runs owned =
     by rows f.cache.parts f.has_parts (subst (λ (cs : List Cache). owned_where_run running 0 cs rows ≡ true) f.are owned)
   where
-    by : (rs : List Row) (n : ℕ) → n ≡ suc f.parts → (nat_eq (length (take n rs)) n && list_all (owned_as (list_any (nat_eq 0) running)) (take n rs) && owned_where_run running 1 f.more (drop n rs)) ≡ true → (row : Row) × (rest : List Row) × (rs ≡ row ∷ rest) × (has_owner row ≡ true)
+    by : (rs : List Row) (n : ℕ) → n ≡ suc f.parts →
+        (nat_eq (length (take n rs)) n && list_all (owned_as (list_any (nat_eq 0) running)) (take n rs)
+        && owned_where_run running 1 f.more (drop n rs)) ≡ true → (row : Row) × (rest : List Row) × (rs ≡ row ∷ rest)
+        × (has_owner row ≡ true)
     by rs zero is all = absurd (omega (arith, is))
     by [] (suc n) is all =
-        let first = first_rest (nat_eq 0 (suc n) && list_all (owned_as (list_any (nat_eq 0) running)) []) (owned_where_run running 1 f.more []) all in
+        let first = first_rest (nat_eq 0 (suc n) && list_all (owned_as (list_any (nat_eq 0) running)) [])
+        (owned_where_run running 1 f.more []) all in
         let size = (first_rest (nat_eq 0 (suc n)) (list_all (owned_as (list_any (nat_eq 0) running)) []) first.0).0 in
         absurd (grind (arith, nat_tests, size))
     by (r ∷ rs) (suc n) is all =
-        let first = first_rest (nat_eq (length (take (suc n) (r ∷ rs))) (suc n) && list_all (owned_as (list_any (nat_eq 0) running)) (r ∷ take n rs)) (owned_where_run running 1 f.more (drop (suc n) (r ∷ rs))) all in
-        let second = first_rest (nat_eq (length (take (suc n) (r ∷ rs))) (suc n)) (list_all (owned_as (list_any (nat_eq 0) running)) (r ∷ take n rs)) first.0 in
-        let third = first_rest (owned_as (list_any (nat_eq 0) running) r) (list_all (owned_as (list_any (nat_eq 0) running)) (take n rs)) second.1 in
+        let first = first_rest (nat_eq (length (take (suc n) (r ∷ rs))) (suc n)
+        && list_all (owned_as (list_any (nat_eq 0) running)) (r ∷ take n rs))
+        (owned_where_run running 1 f.more (drop (suc n) (r ∷ rs))) all in
+        let second = first_rest (nat_eq (length (take (suc n) (r ∷ rs))) (suc n))
+        (list_all (owned_as (list_any (nat_eq 0) running)) (r ∷ take n rs)) first.0 in
+        let third = first_rest (owned_as (list_any (nat_eq 0) running) r) (list_all (owned_as (list_any (nat_eq 0) running))
+        (take n rs)) second.1 in
         (r, rs, refl, subst (λ (c : Bool). owned_as c r ≡ true) runs third.0)
 
 -- Servers.
 
-any_with : (p q : Member → Bool) (P : Member → Type 0) (ms : List Member) → ((m : Member) → p m ≡ true → P m → q m ≡ true) → HoldsOfEach P ms → list_any p ms ≡ true → list_any q ms ≡ true
+any_with : (p q : Member → Bool) (P : Member → Type 0) (ms : List Member) → ((m : Member) → p m ≡ true → P m → q m ≡ true) →
+    HoldsOfEach P ms → list_any p ms ≡ true → list_any q ms ≡ true
 any_with p q P [] gives all some = absurd (cc (some))
 any_with p q P (m ∷ ms) gives all some = by (λ rest. any_with p q P ms gives all.1 rest) (p m) refl some
   where
-    by : (list_any p ms ≡ true → list_any q ms ≡ true) → (c : Bool) → p m ≡ c → (c || list_any p ms) ≡ true → list_any q (m ∷ ms) ≡ true
+    by : (list_any p ms ≡ true → list_any q ms ≡ true) → (c : Bool) → p m ≡ c → (c || list_any p ms) ≡ true →
+        list_any q (m ∷ ms) ≡ true
     by later true is here = or_first (q m) (list_any q ms) (gives m is all.0)
     by later false is rest = or_second (q m) (list_any q ms) (later rest)
 
-servers_declared : (s : Scenario) (ms : List Member) → HoldsOfEach (IsDeclared s) ms → list_all (is_server_of (members s)) (servers ms) ≡ true
+servers_declared : (s : Scenario) (ms : List Member) → HoldsOfEach (IsDeclared s) ms →
+    list_all (is_server_of (members s)) (servers ms) ≡ true
 servers_declared s [] all = refl
 servers_declared s (m ∷ ms) all = by m.server refl (servers_declared s ms all.1)
   where
-    by : (c : Bool) → m.server ≡ c → list_all (is_server_of (members s)) (servers ms) ≡ true → list_all (is_server_of (members s)) (servers (m ∷ ms)) ≡ true
-    by true is rest = rw is (both_pass (is_server_of (members s) m.node) (list_all (is_server_of (members s)) (servers ms)) (sym all.0.0 ∙ is) rest)
+    by : (c : Bool) → m.server ≡ c → list_all (is_server_of (members s)) (servers ms) ≡ true →
+        list_all (is_server_of (members s)) (servers (m ∷ ms)) ≡ true
+    by true is rest = rw is (both_pass (is_server_of (members s) m.node) (list_all (is_server_of (members s)) (servers ms))
+        (sym all.0.0 ∙ is) rest)
     by false is rest = rw is rest
 
-all_any : (p q : NodeId → Bool) (xs : List NodeId) → list_any p xs ≡ true → list_all q xs ≡ true → (x : NodeId) × (p x ≡ true) × (q x ≡ true)
+all_any : (p q : NodeId → Bool) (xs : List NodeId) → list_any p xs ≡ true → list_all q xs ≡ true → (x : NodeId) × (p x ≡ true)
+    × (q x ≡ true)
 all_any p q [] some all = absurd (cc (some))
-all_any p q (x ∷ xs) some all = let both = first_rest (q x) (list_all q xs) all in by (λ there. all_any p q xs there both.1) (p x) refl some both.0
+all_any p q (x ∷ xs) some all = let both = first_rest (q x) (list_all q xs) all in
+    by (λ there. all_any p q xs there both.1) (p x) refl some both.0
   where
-    by : (list_any p xs ≡ true → (y : NodeId) × (p y ≡ true) × (q y ≡ true)) → (c : Bool) → p x ≡ c → (c || list_any p xs) ≡ true → q x ≡ true → (y : NodeId) × (p y ≡ true) × (q y ≡ true)
+    by : (list_any p xs ≡ true → (y : NodeId) × (p y ≡ true) × (q y ≡ true)) → (c : Bool) → p x ≡ c →
+        (c || list_any p xs) ≡ true → q x ≡ true → (y : NodeId) × (p y ≡ true) × (q y ≡ true)
     by later true is here first = (x, is, first)
     by later false is there first = later there
 
@@ -235,7 +269,8 @@ module _
     first = first_cache s.caches (caches_good s is_good)
 
     opening_runs : list_any (nat_eq 0) (first_topology s).running ≡ true
-    opening_runs = subst (λ (cs : List Cache). list_any (nat_eq 0) (running_from 0 cs) ≡ true) (sym first.are) (rw first.runs refl)
+    opening_runs = subst (λ (cs : List Cache). list_any (nat_eq 0) (running_from 0 cs) ≡ true) (sym first.are)
+        (rw first.runs refl)
 
     runs_at : (k : ℕ) → list_any (nat_eq 0) (topology_after_events s es k).running ≡ true
     runs_at k = zero_runs s (first_topology s) (take k es) opening_runs (each_taken (EventFits s) k es told)
@@ -246,7 +281,8 @@ module _
       opening_pass served (servers s.nodes) (running_from 0 s.caches) 0 s.caches (servers_declared s s.nodes (declared 0)),
     )
       where
-        by : (xs : List TopoEvent) → owned_in s (opening_map_of s) (topology_of (topologies_from (first_topology s) xs) first_top) ≡ true
+        by : (xs : List TopoEvent) →
+            owned_in s (opening_map_of s) (topology_of (topologies_from (first_topology s) xs) first_top) ≡ true
         by [] = rw (same_top_itself first_top) (opening_map_holds s is_good)
         by (x ∷ xs) = rw (same_top_itself first_top) (opening_map_holds s is_good)
 
@@ -258,18 +294,24 @@ module _
       singles = singles_at before c.by m.top
 
       -- a partition of the base has an owner, and so a server is a member
-      some_owned : (o : Option Topology) → topology_of versions c.base.top ≡ o → owned_in s c.base o ≡ true → (row : Row) × (rest : List Row) × (c.base.rows ≡ row ∷ rest) × (has_owner row ≡ true)
+      some_owned : (o : Option Topology) → topology_of versions c.base.top ≡ o → owned_in s c.base o ≡ true → (row : Row)
+          × (rest : List Row) × (c.base.rows ≡ row ∷ rest) × (has_owner row ≡ true)
       some_owned None none owned = absurd (cc (owned))
       some_owned (Some b) found owned =
           let place = found_place (first_topology s) es c.base.top b found in
-          owned_row b.running s.caches c.base.rows first (ap (λ (x : Topology). list_any (nat_eq 0) x.running) place.2 ∙ runs_at place.0) owned
+          owned_row b.running s.caches c.base.rows first (ap (λ (x : Topology). list_any (nat_eq 0) x.running) place.2
+          ∙ runs_at place.0) owned
 
       a_server : list_any (λ (x : Member). x.server) t.members ≡ true
       a_server =
           let row = some_owned (topology_of versions c.base.top) refl base_fits.0 in
-          let kept : keeps_one t.members row.0 ≡ true = (first_rest (keeps_one t.members row.0) (list_all (keeps_one t.members) row.1) (sym (ap (list_all (keeps_one t.members)) row.2) ∙ c.keeps)).0 in
-          let some : list_any (is_member t.members) row.0.owners ≡ true = subst (λ (b : Bool). (not b || list_any (is_member t.members) row.0.owners) ≡ true) row.3 kept in
-          let held = (first_rest (holds_only served row.0) (list_all (holds_only served) row.1) (sym (ap (list_all (holds_only served)) row.2) ∙ base_fits.1)).0 in
+          let kept : keeps_one t.members row.0 ≡ true =
+          (first_rest (keeps_one t.members row.0) (list_all (keeps_one t.members) row.1)
+          (sym (ap (list_all (keeps_one t.members)) row.2) ∙ c.keeps)).0 in
+          let some : list_any (is_member t.members) row.0.owners ≡ true =
+          subst (λ (b : Bool). (not b || list_any (is_member t.members) row.0.owners) ≡ true) row.3 kept in
+          let held = (first_rest (holds_only served row.0) (list_all (holds_only served) row.1)
+          (sym (ap (list_all (holds_only served)) row.2) ∙ base_fits.1)).0 in
           let owners = (first_rest (list_all served row.0.owners) (list_all served row.0.movers) held).0 in
           let one = all_any (is_member t.members) served row.0.owners some owners in
           any_with (λ (x : Member). same_node one.0 x.node) (λ (x : Member). x.server) (IsDeclared s) t.members
@@ -287,50 +329,67 @@ module _
           let base = base_map singles in (
             ap (owned_in s m) (at_place s es c.place m.top short c.within c.is_top)
                 ∙ ap (λ (x : PartMap). owned_where_run t.running 0 s.caches x.rows) c.is_next
-                ∙ subst (λ (ns : List NodeId). owned_where_run t.running 0 s.caches (next_rows t.members singles base.top 0 (opening_rows ns t.running 0 s.caches) base.rows) ≡ true) (sym some.2)
+                ∙ subst (λ (ns : List NodeId). owned_where_run t.running 0 s.caches
+                (next_rows t.members singles base.top 0 (opening_rows ns t.running 0 s.caches) base.rows) ≡ true)
+                (sym some.2)
                 (next_owned t.members singles base.top some.0 some.1 t.running 0 s.caches 0 base.rows base_keeps),
             ap (λ (x : PartMap). list_all (holds_only served) x.rows) c.is_next
-                ∙ next_served served t.members singles base.top 0 (opening_rows (servers t.members) t.running 0 s.caches) base.rows
+                ∙ next_served served t.members singles base.top 0 (opening_rows (servers t.members) t.running 0 s.caches)
+                base.rows
                 (opening_pass served (servers t.members) t.running 0 s.caches (servers_declared s t.members (declared c.place)))
                 (ap (λ (x : PartMap). list_all (holds_only served) x.rows) base_is ∙ base_fits.1),
           )
 
-    installed_fits : (before : List Noted) (n : Noted) (r : Rec) → HoldsOfEach Fits (maps_installed s before) → SurvivorsFit s es before n r → (installs_fitting (owned_in s) versions r ≡ true) × HoldsOfEach Fits (map_in r)
+    installed_fits : (before : List Noted) (n : Noted) (r : Rec) → HoldsOfEach Fits (maps_installed s before) →
+        SurvivorsFit s es before n r → (installs_fitting (owned_in s) versions r ≡ true) × HoldsOfEach Fits (map_in r)
     installed_fits before n (note.Install m) all fits = let one = by fits.1 in (one.0, (one, tt))
       where
         by : IsKnownMap s before m ⊎ IsOnOwnedBase s es before m → Fits m
-        by (inl known) = (found_there Fits (λ (x : PartMap). same_top x.top m.top) (maps_installed s before) m known.is_map all).0
-        by (inr c) = next_fits before m c (found_there Fits (λ (x : PartMap). same_top x.top c.base.top) (maps_installed s before) c.base c.base_known all).0
+        by (inl known) = (found_there Fits (λ (x : PartMap). same_top x.top m.top) (maps_installed s before) m known.is_map
+            all).0
+        by (inr c) = next_fits before m c (found_there Fits (λ (x : PartMap). same_top x.top c.base.top)
+            (maps_installed s before) c.base c.base_known all).0
     installed_fits before n _ all fits = (refl, tt)
 
     longer : (before : List Noted) (n : Noted) → maps_installed s (before ++ n ∷ []) ≡ maps_installed s before ++ map_in n.rec
-    longer before n = ap (λ (ms : List PartMap). opening_map_of s ∷ ms) (flat_map-append (λ (x : Noted). map_in x.rec) before (n ∷ []) ∙ ap (λ (ms : List PartMap). flat_map (λ (x : Noted). map_in x.rec) before ++ ms) (append_none (map_in n.rec)))
+    longer before n = ap (λ (ms : List PartMap). opening_map_of s ∷ ms) (flat_map-append (λ (x : Noted). map_in x.rec) before
+        (n ∷ []) ∙ ap (λ (ms : List PartMap). flat_map (λ (x : Noted). map_in x.rec) before ++ ms) (append_none (map_in n.rec)))
 
-    each_owned : (before ns : List Noted) → HoldsOfEach Fits (maps_installed s before) → NotedSurvivorsFit s es before ns → each_from (λ (xs : List Noted) (n : Noted). installs_fitting (owned_in s) versions n.rec) before ns ≡ true
+    each_owned : (before ns : List Noted) → HoldsOfEach Fits (maps_installed s before) → NotedSurvivorsFit s es before ns →
+        each_from (λ (xs : List Noted) (n : Noted). installs_fitting (owned_in s) versions n.rec) before ns ≡ true
     each_owned before [] all fits = refl
     each_owned before (n ∷ ns) all fits =
         let one = installed_fits before n n.rec all fits.0 in
-        both_pass (installs_fitting (owned_in s) versions n.rec) (each_from (λ (xs : List Noted) (x : Noted). installs_fitting (owned_in s) versions x.rec) (before ++ n ∷ []) ns) one.0
-        (each_owned (before ++ n ∷ []) ns (subst (HoldsOfEach Fits) (sym (longer before n)) (each_both Fits (maps_installed s before) (map_in n.rec) all one.1)) fits.1)
+        both_pass (installs_fitting (owned_in s) versions n.rec)
+        (each_from (λ (xs : List Noted) (x : Noted). installs_fitting (owned_in s) versions x.rec) (before ++ n ∷ []) ns)
+        one.0
+        (each_owned (before ++ n ∷ []) ns (subst (HoldsOfEach Fits) (sym (longer before n))
+        (each_both Fits (maps_installed s before) (map_in n.rec) all one.1)) fits.1)
 
-    pub all_owned : (ns : List Noted) → NotedSurvivorsFit s es [] ns → each_from (λ (xs : List Noted) (n : Noted). installs_fitting (owned_in s) versions n.rec) [] ns ≡ true
+    pub all_owned : (ns : List Noted) → NotedSurvivorsFit s es [] ns →
+        each_from (λ (xs : List Noted) (n : Noted). installs_fitting (owned_in s) versions n.rec) [] ns ≡ true
     all_owned ns fits = each_owned [] ns (opening_is_fit, tt) fits
 
 -- Both laws of a map are the statement.
 
-each_joined : (a b c : List Noted → Noted → Bool) → ((before : List Noted) (n : Noted) → a before n ≡ true → b before n ≡ true → c before n ≡ true) → (before ns : List Noted) → each_from a before ns ≡ true → each_from b before ns ≡ true → each_from c before ns ≡ true
+each_joined : (a b c : List Noted → Noted → Bool) → ((before : List Noted) (n : Noted) → a before n ≡ true →
+    b before n ≡ true → c before n ≡ true) → (before ns : List Noted) → each_from a before ns ≡ true →
+    each_from b before ns ≡ true → each_from c before ns ≡ true
 each_joined a b c gives before [] first second = refl
 each_joined a b c gives before (n ∷ ns) first second =
     let x = first_rest (a before n) (each_from a (before ++ n ∷ []) ns) first in
     let y = first_rest (b before n) (each_from b (before ++ n ∷ []) ns) second in
-    both_pass (c before n) (each_from c (before ++ n ∷ []) ns) (gives before n x.0 y.0) (each_joined a b c gives (before ++ n ∷ []) ns x.1 y.1)
+    both_pass (c before n) (each_from c (before ++ n ∷ []) ns) (gives before n x.0 y.0)
+    (each_joined a b c gives (before ++ n ∷ []) ns x.1 y.1)
 
-one_fits : (s : Scenario) (ts : List Topology) (before : List Noted) (r : Rec) → installs_fitting (owned_in s) ts r ≡ true → installs_next_map s ts before r ≡ true → install_fits s ts before r ≡ true
+one_fits : (s : Scenario) (ts : List Topology) (before : List Noted) (r : Rec) → installs_fitting (owned_in s) ts r ≡ true →
+    installs_next_map s ts before r ≡ true → install_fits s ts before r ≡ true
 one_fits s ts before (note.Install m) owned next = by (map_of_version (maps_installed s before) m.top) next
   where
     new_map : (o : Option Topology) → owned_in s m o ≡ true → is_next_of s before m o ≡ true → is_new_map s before m o ≡ true
     new_map None has is = absurd (cc (has))
-    new_map (Some t) has is = both_pass (owned_where_run t.running 0 s.caches m.rows) (is_map_from s before t m (oldest_member t.members)) has is
+    new_map (Some t) has is = both_pass (owned_where_run t.running 0 s.caches m.rows)
+        (is_map_from s before t m (oldest_member t.members)) has is
 
     by : (o : Option PartMap) → is_known_or_next s ts before m o ≡ true → map_fits s ts before m o ≡ true
     by None is = new_map (topology_of ts m.top) owned is
@@ -338,14 +397,23 @@ one_fits s ts before (note.Install m) owned next = by (map_of_version (maps_inst
 one_fits s ts before _ owned next = refl
 
 module _ (events : ℕ) (short : is_short_run events ≡ true) (j : Journal) (run : IsRunOf events j) where
-  pub owned_hold : each_from (λ (xs : List Noted) (n : Noted). installs_fitting (owned_in j.scenario) (topologies j) n.rec) [] (noted j.scenario j.groups) ≡ true
+  pub owned_hold : each_from (λ (xs : List Noted) (n : Noted). installs_fitting (owned_in j.scenario) (topologies j) n.rec) []
+      (noted j.scenario j.groups) ≡ true
   owned_hold =
       let all = holds events short j run in
-      subst (λ (ts : List Topology). each_from (λ (xs : List Noted) (n : Noted). installs_fitting (owned_in j.scenario) ts n.rec) [] (noted j.scenario j.groups) ≡ true) (versions_are events short j run)
-      (all_owned j.scenario run.is_good (last_scene j).directory.events all.maps.topology.few (told_fit events short j run) (version_members events short j run) (noted j.scenario j.groups) all.survivors.fit)
+      subst (λ (ts : List Topology).
+      each_from (λ (xs : List Noted) (n : Noted). installs_fitting (owned_in j.scenario) ts n.rec) []
+      (noted j.scenario j.groups) ≡ true) (versions_are events short j run)
+      (all_owned j.scenario run.is_good (last_scene j).directory.events all.maps.topology.few (told_fit events short j run)
+      (version_members events short j run) (noted j.scenario j.groups) all.survivors.fit)
 
   pub maps_hold : maps j ≡ true
   maps_hold =
-      both_pass (opening_map_fits j.scenario) (each_from (λ (before : List Noted) (n : Noted). install_fits j.scenario (topologies j) before n.rec) [] (noted j.scenario j.groups)) (opening_map_holds j.scenario run.is_good)
-      (each_joined (λ (before : List Noted) (n : Noted). installs_fitting (owned_in j.scenario) (topologies j) n.rec) (λ (before : List Noted) (n : Noted). installs_next_map j.scenario (topologies j) before n.rec) (λ (before : List Noted) (n : Noted). install_fits j.scenario (topologies j) before n.rec)
-      (λ before n owned next. one_fits j.scenario (topologies j) before n.rec owned next) [] (noted j.scenario j.groups) owned_hold (next_maps_hold events short j run))
+      both_pass (opening_map_fits j.scenario)
+      (each_from (λ (before : List Noted) (n : Noted). install_fits j.scenario (topologies j) before n.rec) []
+      (noted j.scenario j.groups)) (opening_map_holds j.scenario run.is_good)
+      (each_joined (λ (before : List Noted) (n : Noted). installs_fitting (owned_in j.scenario) (topologies j) n.rec)
+      (λ (before : List Noted) (n : Noted). installs_next_map j.scenario (topologies j) before n.rec)
+      (λ (before : List Noted) (n : Noted). install_fits j.scenario (topologies j) before n.rec)
+      (λ before n owned next. one_fits j.scenario (topologies j) before n.rec owned next) [] (noted j.scenario j.groups)
+      owned_hold (next_maps_hold events short j run))

@@ -61,13 +61,15 @@ fresh_live row = by row.owners
 
 fresh_rows : (rows : List Row) → list_all (has_live_owner []) rows ≡ true
 fresh_rows [] = refl
-fresh_rows (row ∷ rows) = both_pass (has_live_owner [] row) (list_all (has_live_owner []) rows) (fresh_live row) (fresh_rows rows)
+fresh_rows (row ∷ rows) = both_pass (has_live_owner [] row) (list_all (has_live_owner []) rows) (fresh_live row)
+    (fresh_rows rows)
 
 module _ (s : Scenario) where
   abbrev om : PartMap
   om = opening_map_of s
 
-  opens_at : (c : Bool) → c ≡ true → list_any (λ (m : PartMap). same_top m.top om.top) (option_to_list (map_if c om) ++ []) ≡ true
+  opens_at : (c : Bool) → c ≡ true → list_any (λ (m : PartMap). same_top m.top om.top) (option_to_list (map_if c om) ++ [])
+      ≡ true
   opens_at true is = rw (same_top_itself om.top) refl
   opens_at false is = absurd (cc (is))
 
@@ -75,7 +77,8 @@ module _ (s : Scenario) where
   opening_noted n = by (is_member s.nodes n) refl
     where
       by : (c : Bool) → is_member s.nodes n ≡ c → IsNotedAt s [] n (opening_node s om n c).installed
-      by true is = ap (λ (c : Bool). list_any (λ (m : PartMap). same_top m.top om.top) (option_to_list (map_if c om) ++ [])) is ∙ opens_at true refl
+      by true is = ap (λ (c : Bool). list_any (λ (m : PartMap). same_top m.top om.top) (option_to_list (map_if c om) ++ []))
+          is ∙ opens_at true refl
       by false is = tt
 
   no_higher_at : (c : Bool) → HoldsOfEach (λ (m : PartMap). IsUpTo m.top om.top) (option_to_list (map_if c om) ++ [])
@@ -101,25 +104,37 @@ module _ (s : Scenario) where
         owned = fresh_rows om.rows;
       }
 
-  some_node : (ms : List Member) → list_any (λ (m : Member). m.server) ms ≡ true → (m : Member) × (more : List Member) × (ms ≡ m ∷ more)
+  some_node : (ms : List Member) → list_any (λ (m : Member). m.server) ms ≡ true → (m : Member) × (more : List Member)
+      × (ms ≡ m ∷ more)
   some_node [] some = absurd (cc (some))
   some_node (m ∷ ms) some = (m, ms, refl)
 
   pub opening_survivors : IsTrue (good s) → MapsAndSurvivors (opening_scene s)
   opening_survivors is_good =
-      let served = (first_rest (list_all (λ (m : Member). is_within 1 NODE_NUMBERS m.node.0) (members s) && are_distinct same_member_node (members s) && nat_le (length (members s)) NODES) (list_any (λ (m : Member). m.server) s.nodes) (some_good s is_good)).1 in
+      let served = (first_rest (list_all (λ (m : Member). is_within 1 NODE_NUMBERS m.node.0) (members s)
+      && are_distinct same_member_node (members s) && nat_le (length (members s)) NODES)
+      (list_any (λ (m : Member). m.server) s.nodes) (some_good s is_good)).1 in
       let some = some_node s.nodes served in
-      record { maps = opening_holds s; survivors = record { noted = opening_noted; owners = opening_owners some.0 some.1 some.2; fit = tt } }
+      record {
+        maps = opening_holds s;
+        survivors =
+            record { noted = opening_noted; owners = opening_owners some.0 some.1 some.2; fit = tt };
+      }
 
 -- Each map is the one of its version.
 
 abbrev pub IsKnown : Scenario → List Noted → PartMap → Type 0
 IsKnown s recs m = map_of_version (maps_installed s recs) m.top ≡ Some m
 
-installed_next : (s : Scenario) (before : List Noted) (n : Noted) → maps_installed s (before ++ n ∷ []) ≡ maps_installed s before ++ map_in n.rec
-installed_next s before n = ap (λ (ms : List PartMap). opening_map_of s ∷ ms) (flat_map-append (λ (x : Noted). map_in x.rec) before (n ∷ []) ∙ ap (λ (ms : List PartMap). flat_map (λ (x : Noted). map_in x.rec) before ++ ms) (append_none (map_in n.rec)))
+installed_next : (s : Scenario) (before : List Noted) (n : Noted) →
+    maps_installed s (before ++ n ∷ []) ≡ maps_installed s before ++ map_in n.rec
+installed_next s before n = ap (λ (ms : List PartMap). opening_map_of s ∷ ms)
+    (flat_map-append (λ (x : Noted). map_in x.rec) before (n ∷ [])
+    ∙ ap (λ (ms : List PartMap). flat_map (λ (x : Noted). map_in x.rec) before ++ ms) (append_none (map_in n.rec)))
 
-known_next : (sc : TopologyScene) (before : List Noted) (n : Noted) → RecordFits sc before n.rec → HoldsOfEach (IsKnown sc.scenario before) (maps_installed sc.scenario before) → HoldsOfEach (IsKnown sc.scenario (before ++ n ∷ [])) (maps_installed sc.scenario (before ++ n ∷ []))
+known_next : (sc : TopologyScene) (before : List Noted) (n : Noted) → RecordFits sc before n.rec →
+    HoldsOfEach (IsKnown sc.scenario before) (maps_installed sc.scenario before) →
+    HoldsOfEach (IsKnown sc.scenario (before ++ n ∷ [])) (maps_installed sc.scenario (before ++ n ∷ []))
 known_next sc before n fits all =
     let s = sc.scenario in
     let next = before ++ n ∷ [] in
@@ -128,9 +143,13 @@ known_next sc before n fits all =
     (each_change (IsKnown s before) (IsKnown s next) (maps_installed s before) (λ m is. later m is) all) (by n.rec refl fits))
   where
     later : (m : PartMap) → IsKnown sc.scenario before m → IsKnown sc.scenario (before ++ n ∷ []) m
-    later m is = ap (λ (ms : List PartMap). map_of_version ms m.top) (installed_next sc.scenario before n) ∙ found_more (λ (x : PartMap). same_top x.top m.top) (maps_installed sc.scenario before) (map_in n.rec) m is
+    later m is = ap (λ (ms : List PartMap). map_of_version ms m.top) (installed_next sc.scenario before n)
+        ∙ found_more (λ (x : PartMap). same_top x.top m.top) (maps_installed sc.scenario before) (map_in n.rec) m is
 
-    new_map : (m : PartMap) → n.rec ≡ note.Install m → ((there : PartMap) → map_of_version (maps_installed sc.scenario before) m.top ≡ Some there → m ≡ there) → (o : Option PartMap) → map_of_version (maps_installed sc.scenario before) m.top ≡ o → IsKnown sc.scenario (before ++ n ∷ []) m
+    new_map : (m : PartMap) → n.rec ≡ note.Install m →
+        ((there : PartMap) → map_of_version (maps_installed sc.scenario before) m.top ≡ Some there → m ≡ there) →
+        (o : Option PartMap) → map_of_version (maps_installed sc.scenario before) m.top ≡ o →
+        IsKnown sc.scenario (before ++ n ∷ []) m
     new_map m is one (Some there) found = later m (found ∙ ap (λ (x : PartMap). Some x) (sym (one there found)))
     new_map m is one None none =
         ap (λ (ms : List PartMap). map_of_version ms m.top) (installed_next sc.scenario before n)
@@ -142,8 +161,10 @@ known_next sc before n fits all =
     by _ is one = tt
 
 -- those of a node are among all
-maps_among : (s : Scenario) (P : PartMap → Type 0) (recs : List Noted) (k : NodeId) → HoldsOfEach P (maps_installed s recs) → HoldsOfEach P (maps_at s recs k)
-maps_among s P recs k all = each_both P (option_to_list (map_if (is_member s.nodes k) (opening_map_of s))) (flat_map map_in (recs_of k recs)) (first (is_member s.nodes k)) (rest recs all.1)
+maps_among : (s : Scenario) (P : PartMap → Type 0) (recs : List Noted) (k : NodeId) → HoldsOfEach P (maps_installed s recs) →
+    HoldsOfEach P (maps_at s recs k)
+maps_among s P recs k all = each_both P (option_to_list (map_if (is_member s.nodes k) (opening_map_of s)))
+    (flat_map map_in (recs_of k recs)) (first (is_member s.nodes k)) (rest recs all.1)
   where
     first : (c : Bool) → HoldsOfEach P (option_to_list (map_if c (opening_map_of s)))
     first true = (all.0, tt)
@@ -153,13 +174,15 @@ maps_among s P recs k all = each_both P (option_to_list (map_if (is_member s.nod
     split (note.Install m) ys both = ((both.0, tt), both.1)
     split _ ys both = (tt, both)
 
-    rest : (ns : List Noted) → HoldsOfEach P (flat_map (λ (n : Noted). map_in n.rec) ns) → HoldsOfEach P (flat_map map_in (recs_of k ns))
+    rest : (ns : List Noted) → HoldsOfEach P (flat_map (λ (n : Noted). map_in n.rec) ns) →
+        HoldsOfEach P (flat_map map_in (recs_of k ns))
     rest [] each = tt
     rest (n ∷ ns) each =
         let both = split n.rec (flat_map (λ (x : Noted). map_in x.rec) ns) each in
         by (is_node k n.node) both.0 (rest ns both.1)
       where
-        by : (c : Bool) → HoldsOfEach P (map_in n.rec) → HoldsOfEach P (flat_map map_in (recs_of k ns)) → HoldsOfEach P (flat_map map_in ((if c then n.rec ∷ [] else []) ++ recs_of k ns))
+        by : (c : Bool) → HoldsOfEach P (map_in n.rec) → HoldsOfEach P (flat_map map_in (recs_of k ns)) →
+            HoldsOfEach P (flat_map map_in ((if c then n.rec ∷ [] else []) ++ recs_of k ns))
         by true here more = each_both P (map_in n.rec) (flat_map map_in (recs_of k ns)) here more
         by false here more = more
 
@@ -169,7 +192,8 @@ abbrev HoldsOfSome : (PartMap → Type 0) → Option PartMap → Type 0
 HoldsOfSome P None = Unit {0}
 HoldsOfSome P (Some m) = P m
 
-newer_holds : (P : PartMap → Type 0) (best : Option PartMap) (m : PartMap) → HoldsOfSome P best → P m → HoldsOfSome P (newer_map best (Some m))
+newer_holds : (P : PartMap → Type 0) (best : Option PartMap) (m : PartMap) → HoldsOfSome P best → P m →
+    HoldsOfSome P (newer_map best (Some m))
 newer_holds P None m first one = one
 newer_holds P (Some best) m first one =
     elim (is_higher m.top best.top) as (λ b. HoldsOfSome P (if b then Some m else Some best)) [
@@ -177,11 +201,13 @@ newer_holds P (Some best) m first one =
       | false ↦ first
     ]
 
-highest_holds : (P : PartMap → Type 0) (best : Option PartMap) (ms : List PartMap) → HoldsOfSome P best → HoldsOfEach P ms → HoldsOfSome P (highest best ms)
+highest_holds : (P : PartMap → Type 0) (best : Option PartMap) (ms : List PartMap) → HoldsOfSome P best → HoldsOfEach P ms →
+    HoldsOfSome P (highest best ms)
 highest_holds P best [] first all = first
 highest_holds P best (m ∷ ms) first all = highest_holds P (newer_map best (Some m)) ms (newer_holds P best m first all.0) all.1
 
-newer_keeps : (best : Option PartMap) (m : PartMap) (top : TopVer) → HasAtLeast top best → HasAtLeast top (newer_map best (Some m))
+newer_keeps : (best : Option PartMap) (m : PartMap) (top : TopVer) → HasAtLeast top best →
+    HasAtLeast top (newer_map best (Some m))
 newer_keeps None m top has = absurd has
 newer_keeps (Some best) m top has =
     elim (is_higher m.top best.top) as (λ b. is_higher m.top best.top ≡ b → HasAtLeast top (if b then Some m else Some best)) [
@@ -192,26 +218,35 @@ newer_keeps (Some best) m top has =
 newer_takes : (best : Option PartMap) (m : PartMap) → HasAtLeast m.top (newer_map best (Some m))
 newer_takes None m = up_itself m.top
 newer_takes (Some best) m =
-    elim (is_higher m.top best.top) as (λ b. is_higher m.top best.top ≡ b → HasAtLeast m.top (if b then Some m else Some best)) [
+    elim (is_higher m.top best.top) as (λ b. is_higher m.top best.top ≡ b →
+    HasAtLeast m.top (if b then Some m else Some best)) [
       | true ↦ λ t. up_itself m.top
       | false ↦ λ f. not_higher_up m.top best.top f
     ] refl
 
-highest_keeps : (best : Option PartMap) (ms : List PartMap) (top : TopVer) → HasAtLeast top best → HasAtLeast top (highest best ms)
+highest_keeps : (best : Option PartMap) (ms : List PartMap) (top : TopVer) → HasAtLeast top best →
+    HasAtLeast top (highest best ms)
 highest_keeps best [] top has = has
 highest_keeps best (m ∷ ms) top has = highest_keeps (newer_map best (Some m)) ms top (newer_keeps best m top has)
 
-highest_takes : (best : Option PartMap) (ms : List PartMap) (top : TopVer) → list_any (λ (m : PartMap). same_top m.top top) ms ≡ true → HasAtLeast top (highest best ms)
+highest_takes : (best : Option PartMap) (ms : List PartMap) (top : TopVer) → list_any (λ (m : PartMap). same_top m.top top) ms
+    ≡ true → HasAtLeast top (highest best ms)
 highest_takes best [] top some = absurd (cc (some))
-highest_takes best (m ∷ ms) top some = by (λ rest. highest_takes (newer_map best (Some m)) ms top rest) (same_top m.top top) refl some
+highest_takes best (m ∷ ms) top some = by (λ rest. highest_takes (newer_map best (Some m)) ms top rest)
+    (same_top m.top top) refl some
   where
-    by : (list_any (λ (x : PartMap). same_top x.top top) ms ≡ true → HasAtLeast top (highest (newer_map best (Some m)) ms)) → (c : Bool) → same_top m.top top ≡ c → (c || list_any (λ (x : PartMap). same_top x.top top) ms) ≡ true → HasAtLeast top (highest (newer_map best (Some m)) ms)
-    by later true same here = highest_keeps (newer_map best (Some m)) ms top (subst (λ (t : TopVer). HasAtLeast t (newer_map best (Some m))) (same_top_true m.top top same) (newer_takes best m))
+    by : (list_any (λ (x : PartMap). same_top x.top top) ms ≡ true → HasAtLeast top (highest (newer_map best (Some m)) ms)) →
+        (c : Bool) → same_top m.top top ≡ c → (c || list_any (λ (x : PartMap). same_top x.top top) ms) ≡ true →
+        HasAtLeast top (highest (newer_map best (Some m)) ms)
+    by later true same here =
+        highest_keeps (newer_map best (Some m)) ms top (subst (λ (t : TopVer). HasAtLeast t (newer_map best (Some m)))
+        (same_top_true m.top top same) (newer_takes best m))
     by later false other rest = later rest
 
 -- Nodes.
 
-any_get : {A : Type 0} (p : A → Bool) (xs : List A) (k : ℕ) (x : A) → slice_get xs k ≡ Some x → p x ≡ true → list_any p xs ≡ true
+any_get : {A : Type 0} (p : A → Bool) (xs : List A) (k : ℕ) (x : A) → slice_get xs k ≡ Some x → p x ≡ true →
+    list_any p xs ≡ true
 any_get p [] k x there is = absurd (cc (there))
 any_get p (y ∷ ys) zero x there is = let same : y ≡ x = cc (there) in or_first (p y) (list_any p ys) (ap p same ∙ is)
 any_get p (y ∷ ys) (suc k) x there is = or_second (p y) (list_any p ys) (any_get p ys k x there is)
@@ -219,51 +254,73 @@ any_get p (y ∷ ys) (suc k) x there is = or_second (p y) (list_any p ys) (any_g
 has_id : (s : Scenario) (x : NodeId) → is_member (declared_nodes s) x ≡ true → list_any (same_node x) (ids_of s) ≡ true
 has_id s x declared =
     let at = set_both [] (declared_nodes s) [] x declared in
-    any_get (same_node x) (ids_of s) at.0 x (ap (λ ms. slice_get (node_set [] ms) at.0) (sym (append_none (declared_nodes s))) ∙ at.1) (same_node_itself x)
+    any_get (same_node x) (ids_of s) at.0 x (ap (λ ms. slice_get (node_set [] ms) at.0) (sym (append_none (declared_nodes s)))
+    ∙ at.1) (same_node_itself x)
 
 -- one that is not lost is among those that are not lost
-live_there : (recs : List Noted) (ids : List NodeId) (x : NodeId) (f : NodeId → List PartMap) (test : PartMap → Bool) → list_any (same_node x) ids ≡ true → is_lost recs x ≡ false → list_any test (f x) ≡ true → list_any test (flat_map f (filter (λ (id : NodeId). not (is_lost recs id)) ids)) ≡ true
+live_there : (recs : List Noted) (ids : List NodeId) (x : NodeId) (f : NodeId → List PartMap) (test : PartMap → Bool) →
+    list_any (same_node x) ids ≡ true → is_lost recs x ≡ false → list_any test (f x) ≡ true →
+    list_any test (flat_map f (filter (λ (id : NodeId). not (is_lost recs id)) ids)) ≡ true
 live_there recs [] x f test some lives has = absurd (cc (some))
-live_there recs (y ∷ ys) x f test some lives has = by (λ there. live_there recs ys x f test there lives has) (same_node x y) refl some (is_lost recs y) refl
+live_there recs (y ∷ ys) x f test some lives has = by (λ there. live_there recs ys x f test there lives has)
+    (same_node x y) refl some (is_lost recs y) refl
   where
-    by : (list_any (same_node x) ys ≡ true → list_any test (flat_map f (filter (λ (id : NodeId). not (is_lost recs id)) ys)) ≡ true) → (c : Bool) → same_node x y ≡ c → (c || list_any (same_node x) ys) ≡ true → (d : Bool) → is_lost recs y ≡ d → list_any test (flat_map f (if not d then y ∷ filter (λ (id : NodeId). not (is_lost recs id)) ys else filter (λ (id : NodeId). not (is_lost recs id)) ys)) ≡ true
+    by : (list_any (same_node x) ys ≡ true → list_any test (flat_map f (filter (λ (id : NodeId). not (is_lost recs id)) ys))
+        ≡ true) → (c : Bool) → same_node x y ≡ c → (c || list_any (same_node x) ys) ≡ true → (d : Bool) → is_lost recs y ≡ d →
+        list_any test (flat_map f (if not d then y ∷ filter (λ (id : NodeId). not (is_lost recs id)) ys else filter
+        (λ (id : NodeId). not (is_lost recs id)) ys)) ≡ true
     by later true same here true lost = let me = ap (is_lost recs) (same_node_true x y same) in absurd (cc (me, lives, lost))
     by later true same here false live =
         list_any-append test (f y) (flat_map f (filter (λ (id : NodeId). not (is_lost recs id)) ys))
-        ∙ or_first (list_any test (f y)) (list_any test (flat_map f (filter (λ (id : NodeId). not (is_lost recs id)) ys))) (ap (λ (n : NodeId). list_any test (f n)) (sym (same_node_true x y same)) ∙ has)
+        ∙ or_first (list_any test (f y)) (list_any test (flat_map f (filter (λ (id : NodeId). not (is_lost recs id)) ys)))
+        (ap (λ (n : NodeId). list_any test (f n)) (sym (same_node_true x y same)) ∙ has)
     by later false other there true lost = later there
     by later false other there false live =
         list_any-append test (f y) (flat_map f (filter (λ (id : NodeId). not (is_lost recs id)) ys))
-        ∙ or_second (list_any test (f y)) (list_any test (flat_map f (filter (λ (id : NodeId). not (is_lost recs id)) ys))) (later there)
+        ∙ or_second (list_any test (f y)) (list_any test (flat_map f (filter (λ (id : NodeId). not (is_lost recs id)) ys)))
+        (later there)
 
-live_each : (recs : List Noted) (ids : List NodeId) (f : NodeId → List PartMap) (P : PartMap → Type 0) → ((x : NodeId) → is_lost recs x ≡ false → HoldsOfEach P (f x)) → HoldsOfEach P (flat_map f (filter (λ (id : NodeId). not (is_lost recs id)) ids))
+live_each : (recs : List Noted) (ids : List NodeId) (f : NodeId → List PartMap) (P : PartMap → Type 0) →
+    ((x : NodeId) → is_lost recs x ≡ false → HoldsOfEach P (f x)) →
+    HoldsOfEach P (flat_map f (filter (λ (id : NodeId). not (is_lost recs id)) ids))
 live_each recs [] f P all = tt
 live_each recs (y ∷ ys) f P all = by (is_lost recs y) refl (live_each recs ys f P all)
   where
-    by : (d : Bool) → is_lost recs y ≡ d → HoldsOfEach P (flat_map f (filter (λ (id : NodeId). not (is_lost recs id)) ys)) → HoldsOfEach P (flat_map f (if not d then y ∷ filter (λ (id : NodeId). not (is_lost recs id)) ys else filter (λ (id : NodeId). not (is_lost recs id)) ys))
+    by : (d : Bool) → is_lost recs y ≡ d → HoldsOfEach P (flat_map f (filter (λ (id : NodeId). not (is_lost recs id)) ys)) →
+        HoldsOfEach P (flat_map f (if not d then y ∷ filter (λ (id : NodeId). not (is_lost recs id)) ys else filter
+        (λ (id : NodeId). not (is_lost recs id)) ys))
     by true lost rest = rest
     by false live rest = each_both P (f y) (flat_map f (filter (λ (id : NodeId). not (is_lost recs id)) ys)) (all y live) rest
 
 -- what is known of the highest map is the statement
-both_at : (s : Scenario) (recs : List Noted) (top : TopVer) (k : NodeId) → HoldsOfEach (λ (m : PartMap). IsUpTo m.top top) (maps_at s recs k) → HoldsOfEach (IsKnown s recs) (maps_at s recs k) → HoldsOfEach (λ (m : PartMap). IsUpTo m.top top × IsKnown s recs m) (maps_at s recs k)
+both_at : (s : Scenario) (recs : List Noted) (top : TopVer) (k : NodeId) → HoldsOfEach (λ (m : PartMap). IsUpTo m.top top)
+    (maps_at s recs k) → HoldsOfEach (IsKnown s recs) (maps_at s recs k) →
+    HoldsOfEach (λ (m : PartMap). IsUpTo m.top top × IsKnown s recs m) (maps_at s recs k)
 both_at s recs top k = by (maps_at s recs k)
   where
-    by : (ms : List PartMap) → HoldsOfEach (λ (m : PartMap). IsUpTo m.top top) ms → HoldsOfEach (IsKnown s recs) ms → HoldsOfEach (λ (m : PartMap). IsUpTo m.top top × IsKnown s recs m) ms
+    by : (ms : List PartMap) → HoldsOfEach (λ (m : PartMap). IsUpTo m.top top) ms → HoldsOfEach (IsKnown s recs) ms →
+        HoldsOfEach (λ (m : PartMap). IsUpTo m.top top × IsKnown s recs m) ms
     by [] a b = tt
     by (m ∷ ms) a b = ((a.0, b.0), by ms a.1 b.1)
 
-highest_owned : (s : Scenario) (es : List TopoEvent) (recs : List Noted) → ((k : ℕ) (x : NodeId) → is_member (topology_after_events s es k).members x ≡ true → is_member (declared_nodes s) x ≡ true) → HoldsOfEach (IsKnown s recs) (maps_installed s recs) → HasLiveOwners s es recs
+highest_owned : (s : Scenario) (es : List TopoEvent) (recs : List Noted) →
+    ((k : ℕ) (x : NodeId) → is_member (topology_after_events s es k).members x ≡ true →
+    is_member (declared_nodes s) x ≡ true) → HoldsOfEach (IsKnown s recs) (maps_installed s recs) → HasLiveOwners s es recs
     → rows_have_live_owners recs (highest_map s recs) ≡ true
 highest_owned s es recs declared known o =
     let maps = flat_map (maps_at s recs) (live_nodes s recs) in
     let id = has_id s o.at (declared o.place o.at o.member) in
-    let high : HasAtLeast o.map.top (highest None maps) = highest_takes None maps o.map.top (live_there recs (ids_of s) o.at (maps_at s recs) (λ (m : PartMap). same_top m.top o.map.top) id o.lives o.has_it) in
+    let high : HasAtLeast o.map.top (highest None maps) =
+    highest_takes None maps o.map.top (live_there recs (ids_of s) o.at (maps_at s recs)
+    (λ (m : PartMap). same_top m.top o.map.top) id o.lives o.has_it) in
     let one : HoldsOfSome (λ (m : PartMap). IsUpTo m.top o.map.top × IsKnown s recs m) (highest None maps) =
     highest_holds (λ (m : PartMap). IsUpTo m.top o.map.top × IsKnown s recs m) None maps tt
-    (live_each recs (ids_of s) (maps_at s recs) (λ (m : PartMap). IsUpTo m.top o.map.top × IsKnown s recs m) (λ k lives. both_at s recs o.map.top k (o.is_highest k lives) (maps_among s (IsKnown s recs) recs k known))) in
+    (live_each recs (ids_of s) (maps_at s recs) (λ (m : PartMap). IsUpTo m.top o.map.top × IsKnown s recs m)
+    (λ k lives. both_at s recs o.map.top k (o.is_highest k lives) (maps_among s (IsKnown s recs) recs k known))) in
     by (highest None maps) high one
   where
-    by : (r : Option PartMap) → HasAtLeast o.map.top r → HoldsOfSome (λ (m : PartMap). IsUpTo m.top o.map.top × IsKnown s recs m) r → rows_have_live_owners recs r ≡ true
+    by : (r : Option PartMap) → HasAtLeast o.map.top r →
+        HoldsOfSome (λ (m : PartMap). IsUpTo m.top o.map.top × IsKnown s recs m) r → rows_have_live_owners recs r ≡ true
     by None high one = refl
     by (Some m) high one =
         let same : m.top ≡ o.map.top = up_both m.top o.map.top one.0 high in
@@ -271,37 +328,51 @@ highest_owned s es recs declared known o =
         ap (λ (x : PartMap). rows_have_live_owners recs (Some x)) (sym is) ∙ o.owned
 
 -- Each record.
-module _ (sc : TopologyScene) (es : List TopoEvent) (declared : (k : ℕ) (x : NodeId) → is_member (topology_after_events sc.scenario es k).members x ≡ true → is_member (declared_nodes sc.scenario) x ≡ true) where
+module _ (sc : TopologyScene) (es : List TopoEvent) (declared : (k : ℕ) (x : NodeId) →
+    is_member (topology_after_events sc.scenario es k).members x ≡ true → is_member (declared_nodes sc.scenario) x ≡ true) where
   abbrev s : Scenario
   s = sc.scenario
 
-  one_left : (recs : List Noted) → HoldsOfEach (IsKnown s recs) (maps_installed s recs) → (before : List Noted) (n : Noted) (r : Rec) → recs ≡ before ++ n ∷ [] → SurvivorsFit s es before n r → owners_left_at s recs r ≡ true
-  one_left recs known before n (note.Install m) is fits = highest_owned s es recs declared known (subst (HasLiveOwners s es) (sym is) fits.0)
-  one_left recs known before n (note.Lost x) is fits = highest_owned s es recs declared known (subst (HasLiveOwners s es) (sym is) fits)
+  one_left : (recs : List Noted) → HoldsOfEach (IsKnown s recs) (maps_installed s recs) →
+      (before : List Noted) (n : Noted) (r : Rec) → recs ≡ before ++ n ∷ [] → SurvivorsFit s es before n r →
+      owners_left_at s recs r ≡ true
+  one_left recs known before n (note.Install m) is fits =
+      highest_owned s es recs declared known (subst (HasLiveOwners s es) (sym is) fits.0)
+  one_left recs known before n (note.Lost x) is fits =
+      highest_owned s es recs declared known (subst (HasLiveOwners s es) (sym is) fits)
   one_left recs known before n _ is fits = refl
 
-  each_left : (before ns : List Noted) → HoldsOfEach (IsKnown s before) (maps_installed s before) → RecordsFitFrom sc before ns → NotedSurvivorsFit s es before ns → each_from (λ (xs : List Noted) (n : Noted). owners_left_at s (xs ++ n ∷ []) n.rec) before ns ≡ true
+  each_left : (before ns : List Noted) → HoldsOfEach (IsKnown s before) (maps_installed s before) →
+      RecordsFitFrom sc before ns → NotedSurvivorsFit s es before ns →
+      each_from (λ (xs : List Noted) (n : Noted). owners_left_at s (xs ++ n ∷ []) n.rec) before ns ≡ true
   each_left before [] known first fits = refl
   each_left before (n ∷ ns) known first fits =
       let next = known_next sc before n first.0 known in
-      both_pass (owners_left_at s (before ++ n ∷ []) n.rec) (each_from (λ (xs : List Noted) (x : Noted). owners_left_at s (xs ++ x ∷ []) x.rec) (before ++ n ∷ []) ns)
+      both_pass (owners_left_at s (before ++ n ∷ []) n.rec)
+      (each_from (λ (xs : List Noted) (x : Noted). owners_left_at s (xs ++ x ∷ []) x.rec) (before ++ n ∷ []) ns)
       (one_left (before ++ n ∷ []) next before n n.rec refl fits.0) (each_left (before ++ n ∷ []) ns next first.1 fits.1)
 
 -- Of every run.
 
 module _ (events : ℕ) (short : is_short_run events ≡ true) (j : Journal) (run : IsRunOf events j) where
   pub holds : MapsAndSurvivors (last_scene j)
-  holds = legal_holds MapsAndSurvivors survivors_kept (λ s is. opening_survivors s is) j run.is_good (few events short j run) run.is_legal
+  holds = legal_holds MapsAndSurvivors survivors_kept (λ s is. opening_survivors s is) j run.is_good (few events short j run)
+      run.is_legal
 
   pub told_fit : HoldsOfEach (EventFits j.scenario) (last_scene j).directory.events
-  told_fit = subst (HoldsOfEach (EventFits j.scenario)) (sym (directory_told events short j run)) (events_fit j.scenario run.is_good j.groups)
+  told_fit = subst (HoldsOfEach (EventFits j.scenario)) (sym (directory_told events short j run))
+      (events_fit j.scenario run.is_good j.groups)
 
-  pub version_members : (k : ℕ) → HoldsOfEach (IsDeclared j.scenario) (topology_after_events j.scenario (last_scene j).directory.events k).members
-  version_members k = all_declared j.scenario run.is_good (first_topology j.scenario) (last_scene j).directory.events k refl told_fit
+  pub version_members : (k : ℕ) →
+      HoldsOfEach (IsDeclared j.scenario) (topology_after_events j.scenario (last_scene j).directory.events k).members
+  version_members k = all_declared j.scenario run.is_good (first_topology j.scenario) (last_scene j).directory.events k refl
+      told_fit
 
-  declared : (k : ℕ) (x : NodeId) → is_member (topology_after_events j.scenario (last_scene j).directory.events k).members x ≡ true → is_member (declared_nodes j.scenario) x ≡ true
+  declared : (k : ℕ) (x : NodeId) → is_member (topology_after_events j.scenario (last_scene j).directory.events k).members x
+      ≡ true → is_member (declared_nodes j.scenario) x ≡ true
   declared k x is =
-      let found = any_found (IsDeclared j.scenario) (λ (m : Member). same_node x m.node) (topology_after_events j.scenario (last_scene j).directory.events k).members is (version_members k) in
+      let found = any_found (IsDeclared j.scenario) (λ (m : Member). same_node x m.node)
+      (topology_after_events j.scenario (last_scene j).directory.events k).members is (version_members k) in
       ap (is_member (declared_nodes j.scenario)) (same_node_true x found.0.node found.2) ∙ found.1.1
 
   pub owners_left_holds : owners_left j ≡ true

@@ -72,33 +72,43 @@ none_lost (n ∷ ns) x aside =
 
 -- Maps of a node.
 
-pub at_parts : (s : Scenario) (recs more : List Noted) (k : NodeId) → maps_at s (recs ++ more) k ≡ maps_at s recs k ++ flat_map map_in (recs_of k more)
+pub at_parts : (s : Scenario) (recs more : List Noted) (k : NodeId) → maps_at s (recs ++ more) k ≡ maps_at s recs k
+    ++ flat_map map_in (recs_of k more)
 at_parts s recs more k =
     let first : List PartMap = option_to_list (map_if (is_member s.nodes k) (opening_map_of s)) in
-    ap (λ (ms : List PartMap). first ++ ms) (of_parts map_in k recs more) ∙ sym (append_twice first (flat_map map_in (recs_of k recs)) (flat_map map_in (recs_of k more)))
+    ap (λ (ms : List PartMap). first ++ ms) (of_parts map_in k recs more)
+    ∙ sym (append_twice first (flat_map map_in (recs_of k recs)) (flat_map map_in (recs_of k more)))
 
-pub at_same : (s : Scenario) (recs more : List Noted) (k : NodeId) → flat_map map_in (recs_of k more) ≡ [] → maps_at s (recs ++ more) k ≡ maps_at s recs k
-at_same s recs more k none = at_parts s recs more k ∙ ap (λ (ms : List PartMap). maps_at s recs k ++ ms) none ∙ append_none (maps_at s recs k)
+pub at_same : (s : Scenario) (recs more : List Noted) (k : NodeId) → flat_map map_in (recs_of k more) ≡ [] →
+    maps_at s (recs ++ more) k ≡ maps_at s recs k
+at_same s recs more k none = at_parts s recs more k ∙ ap (λ (ms : List PartMap). maps_at s recs k ++ ms) none
+    ∙ append_none (maps_at s recs k)
 
-pub noted_more : (s : Scenario) (recs more : List Noted) (k : NodeId) (top : TopVer) → is_noted_map s recs k top ≡ true → is_noted_map s (recs ++ more) k top ≡ true
+pub noted_more : (s : Scenario) (recs more : List Noted) (k : NodeId) (top : TopVer) → is_noted_map s recs k top ≡ true →
+    is_noted_map s (recs ++ more) k top ≡ true
 noted_more s recs more k top there =
     let test = λ (m : PartMap). same_top m.top top in
     ap (list_any test) (at_parts s recs more k) ∙ list_any-append test (maps_at s recs k) (flat_map map_in (recs_of k more))
     ∙ or_first (list_any test (maps_at s recs k)) (list_any test (flat_map map_in (recs_of k more))) there
 
-pub noted_at_more : (s : Scenario) (recs more : List Noted) (k : NodeId) (o : Option PartMap) → IsNotedAt s recs k o → IsNotedAt s (recs ++ more) k o
+pub noted_at_more : (s : Scenario) (recs more : List Noted) (k : NodeId) (o : Option PartMap) → IsNotedAt s recs k o →
+    IsNotedAt s (recs ++ more) k o
 noted_at_more s recs more k None there = tt
 noted_at_more s recs more k (Some m) there = noted_more s recs more k m.top there
 
 -- The highest map.
 
 -- liveness is as before
-pub rows_same : (recs after : List Noted) → ((x : NodeId) → is_lost after x ≡ is_lost recs x) → (rows : List Row) → list_all (has_live_owner after) rows ≡ list_all (has_live_owner recs) rows
-rows_same recs after same rows = λ i. list_all (λ (row : Row). not (has_owner row) || list_any (λ (id : NodeId). not (same id i)) row.owners) rows
+pub rows_same : (recs after : List Noted) → ((x : NodeId) → is_lost after x ≡ is_lost recs x) → (rows : List Row) →
+    list_all (has_live_owner after) rows ≡ list_all (has_live_owner recs) rows
+rows_same recs after same rows =
+    λ i. list_all (λ (row : Row). not (has_owner row) || list_any (λ (id : NodeId). not (same id i)) row.owners) rows
 
-pub owners_records : (s : Scenario) (es : List TopoEvent) (recs more : List Noted) → AreAside more → HasLiveOwners s es recs → HasLiveOwners s es (recs ++ more)
+pub owners_records : (s : Scenario) (es : List TopoEvent) (recs more : List Noted) → AreAside more → HasLiveOwners s es recs →
+    HasLiveOwners s es (recs ++ more)
 owners_records s es recs more aside o =
-    let same : (x : NodeId) → is_lost (recs ++ more) x ≡ is_lost recs x = λ x. lost_same recs more x (λ y. none_lost more y aside) in
+    let same : (x : NodeId) → is_lost (recs ++ more) x ≡ is_lost recs x =
+    λ x. lost_same recs more x (λ y. none_lost more y aside) in
     record {
       map = o.map;
       is_map = map_more s recs more o.map.top o.map o.is_map;
@@ -108,11 +118,13 @@ owners_records s es recs more aside o =
       within = o.within;
       member = o.member;
       has_it = noted_more s recs more o.at o.map.top o.has_it;
-      is_highest = λ k lives. subst (HoldsOfEach (λ (m : PartMap). IsUpTo m.top o.map.top)) (sym (at_same s recs more k (no_maps_at k more aside))) (o.is_highest k (sym (same k) ∙ lives));
+      is_highest = λ k lives. subst (HoldsOfEach (λ (m : PartMap). IsUpTo m.top o.map.top))
+          (sym (at_same s recs more k (no_maps_at k more aside))) (o.is_highest k (sym (same k) ∙ lives));
       owned = rows_same recs (recs ++ more) same o.map.rows ∙ o.owned;
     }
 
-pub owners_events : (s : Scenario) (es events : List TopoEvent) (recs : List Noted) → HasLiveOwners s es recs → HasLiveOwners s (es ++ events) recs
+pub owners_events : (s : Scenario) (es events : List TopoEvent) (recs : List Noted) → HasLiveOwners s es recs →
+    HasLiveOwners s (es ++ events) recs
 owners_events s es events recs o = record {
   map = o.map;
   is_map = o.is_map;
@@ -128,12 +140,17 @@ owners_events s es events recs o = record {
 
 -- Records of maps and losses.
 
-pub fit_parts : (s : Scenario) (es : List TopoEvent) (before ns ms : List Noted) → NotedSurvivorsFit s es before ns → NotedSurvivorsFit s es (before ++ ns) ms → NotedSurvivorsFit s es before (ns ++ ms)
+pub fit_parts : (s : Scenario) (es : List TopoEvent) (before ns ms : List Noted) → NotedSurvivorsFit s es before ns →
+    NotedSurvivorsFit s es (before ++ ns) ms → NotedSurvivorsFit s es before (ns ++ ms)
 fit_parts s es before [] ms first second = subst (λ (rs : List Noted). NotedSurvivorsFit s es rs ms) (append_none before) second
-fit_parts s es before (n ∷ ns) ms first second =
-    (first.0, fit_parts s es (before ++ n ∷ []) ns ms first.1 (subst (λ (rs : List Noted). NotedSurvivorsFit s es rs ms) (sym (append_twice before (n ∷ []) ns)) second))
+fit_parts s es before (n ∷ ns) ms first second = (
+  first.0,
+  fit_parts s es (before ++ n ∷ []) ns ms first.1 (subst (λ (rs : List Noted). NotedSurvivorsFit s es rs ms)
+      (sym (append_twice before (n ∷ []) ns)) second),
+)
 
-aside_fits : (s : Scenario) (es : List TopoEvent) (before : List Noted) (n : Noted) (r : Rec) → says_no_owner r ≡ true → SurvivorsFit s es before n r
+aside_fits : (s : Scenario) (es : List TopoEvent) (before : List Noted) (n : Noted) (r : Rec) → says_no_owner r ≡ true →
+    SurvivorsFit s es before n r
 aside_fits s es before n (note.Install m) aside = absurd (cc (aside))
 aside_fits s es before n (note.Lost x) aside = absurd (cc (aside))
 aside_fits s es before n _ aside = tt
@@ -144,9 +161,11 @@ aside_fit s es before (n ∷ ns) aside =
     let both = first_rest (says_no_owner n.rec) (list_all (λ (x : Noted). says_no_owner x.rec) ns) aside in
     (aside_fits s es before n n.rec both.0, aside_fit s es (before ++ n ∷ []) ns both.1)
 
-base_events : (s : Scenario) (es events : List TopoEvent) (before : List Noted) (m : PartMap) → IsOnOwnedBase s es before m → IsOnOwnedBase s (es ++ events) before m
+base_events : (s : Scenario) (es events : List TopoEvent) (before : List Noted) (m : PartMap) → IsOnOwnedBase s es before m →
+    IsOnOwnedBase s (es ++ events) before m
 base_events s es events before m c =
-    let same : topology_after_events s (es ++ events) c.place ≡ topology_after_events s es c.place = more_events s es events c.place c.within in
+    let same : topology_after_events s (es ++ events) c.place ≡ topology_after_events s es c.place =
+    more_events s es events c.place c.within in
     record {
       place = c.place;
       within = longer es events c.place c.within;
@@ -159,7 +178,8 @@ base_events s es events before m c =
       keeps = ap (λ (t : Topology). list_all (keeps_one t.members) c.base.rows) same ∙ c.keeps;
     }
 
-fits_events : (s : Scenario) (es events : List TopoEvent) (before : List Noted) (n : Noted) (r : Rec) → SurvivorsFit s es before n r → SurvivorsFit s (es ++ events) before n r
+fits_events : (s : Scenario) (es events : List TopoEvent) (before : List Noted) (n : Noted) (r : Rec) →
+    SurvivorsFit s es before n r → SurvivorsFit s (es ++ events) before n r
 fits_events s es events before n (note.Install m) fits = (owners_events s es events (before ++ n ∷ []) fits.0, by fits.1)
   where
     by : IsKnownMap s before m ⊎ IsOnOwnedBase s es before m → IsKnownMap s before m ⊎ IsOnOwnedBase s (es ++ events) before m
@@ -168,6 +188,10 @@ fits_events s es events before n (note.Install m) fits = (owners_events s es eve
 fits_events s es events before n (note.Lost x) fits = owners_events s es events (before ++ n ∷ []) fits
 fits_events s es events before n _ fits = tt
 
-pub fit_events : (s : Scenario) (es events : List TopoEvent) (before ns : List Noted) → NotedSurvivorsFit s es before ns → NotedSurvivorsFit s (es ++ events) before ns
+pub fit_events : (s : Scenario) (es events : List TopoEvent) (before ns : List Noted) → NotedSurvivorsFit s es before ns →
+    NotedSurvivorsFit s (es ++ events) before ns
 fit_events s es events before [] fits = tt
-fit_events s es events before (n ∷ ns) fits = (fits_events s es events before n n.rec fits.0, fit_events s es events (before ++ n ∷ []) ns fits.1)
+fit_events s es events before (n ∷ ns) fits = (
+  fits_events s es events before n n.rec fits.0,
+  fit_events s es events (before ++ n ∷ []) ns fits.1,
+)

@@ -44,7 +44,8 @@ use Rattle.node_state.specs.declared.life.Life.TheVariants as life
 survivor_parts : (id x : NodeId) (at : Life) → is_survivor id x at ≡ true → (same_node id x ≡ false) × (is_alive at ≡ true)
 survivor_parts id x at is = by (same_node id x) refl is
   where
-    by : (c : Bool) → same_node id x ≡ c → (if c then false else is_alive at) ≡ true → (same_node id x ≡ false) × (is_alive at ≡ true)
+    by : (c : Bool) → same_node id x ≡ c → (if c then false else is_alive at) ≡ true → (same_node id x ≡ false)
+        × (is_alive at ≡ true)
     by true same e = absurd (cc (e))
     by false other e = (other, e)
 
@@ -68,42 +69,52 @@ module _ (sc : Scene) (id : NodeId) (sound : IsSound sc) (may : MayBeLost sc id)
   at_lives = survivor_parts id may.at (sc.life may.at) may.at_survives
 
   at_fits : NodeFits (topology_scene sc) may.at (topology_state (sc.state may.at))
-  at_fits = alive_fits (topology_scene sc) may.at (record { life = sc.life may.at; state = topology_state (sc.state may.at) }) (alive_is (sc.life may.at) at_lives.1) (i.maps.topology.seats may.at (record { life = sc.life may.at; state = topology_state (sc.state may.at) }) refl)
+  at_fits = alive_fits (topology_scene sc) may.at (record { life = sc.life may.at; state = topology_state (sc.state may.at) })
+      (alive_is (sc.life may.at) at_lives.1)
+      (i.maps.topology.seats may.at (record { life = sc.life may.at; state = topology_state (sc.state may.at) }) refl)
 
   best_known : map_of_version (maps_installed sc.scenario sc.recs) may.best.top ≡ Some may.best
   best_known = (subst (MapFits (topology_scene sc) (topology_state (sc.state may.at)).known) may.has_best at_fits.map_fits).0
 
   -- who survives has no higher map
-  none_above : (k : NodeId) → is_lost sc.recs k ≡ false → same_node id k ≡ false → (top : TopVer) → HasAtLeast top (sc.state k).installed → IsUpTo top may.best.top
+  none_above : (k : NodeId) → is_lost sc.recs k ≡ false → same_node id k ≡ false → (top : TopVer) →
+      HasAtLeast top (sc.state k).installed → IsUpTo top may.best.top
   none_above k lives other top has = by_life (sc.life k) refl
     where
-      by_map : (o : Option PartMap) → (sc.state k).installed ≡ o → sc.life k ≡ life.Alive → HasAtLeast top o → IsUpTo top may.best.top
+      by_map : (o : Option PartMap) → (sc.state k).installed ≡ o → sc.life k ≡ life.Alive → HasAtLeast top o →
+          IsUpTo top may.best.top
       by_map None is at up = absurd up
       by_map (Some x) is at up =
-          let survives_it : is_survivor id k (sc.life k) ≡ true = ap (is_survivor id k) at ∙ ap (λ (c : Bool). if c then false else true) other in
+          let survives_it : is_survivor id k (sc.life k) ≡ true = ap (is_survivor id k) at
+          ∙ ap (λ (c : Bool). if c then false else true) other in
           up_twice top x.top may.best.top up (not_higher_up x.top may.best.top (may.none_higher k x survives_it is))
 
       by_life : (at : Life) → sc.life k ≡ at → IsUpTo top may.best.top
       by_life life.Alive at = by_map (sc.state k).installed refl at has
-      by_life life.Absent at = absurd (subst (HasAtLeast top) (ap (λ (st : NodeState). st.installed) (sound.absent_fresh k at)) has)
+      by_life life.Absent at =
+          absurd (subst (HasAtLeast top) (ap (λ (st : NodeState). st.installed) (sound.absent_fresh k at)) has)
       by_life life.Gone at = let gone = sound.gone_lost k (ap is_gone at) in absurd (cc (gone, lives))
 
   -- a member that remains is not lost
   remains_live : (x : NodeId) → remains sc.directory.members id x ≡ true → not (is_lost after x) ≡ true
   remains_live x is = by (same_node x id) refl is
     where
-      by : (c : Bool) → same_node x id ≡ c → (if c then false else is_member sc.directory.members x) ≡ true → not (is_lost after x) ≡ true
+      by : (c : Bool) → same_node x id ≡ c → (if c then false else is_member sc.directory.members x) ≡ true →
+          not (is_lost after x) ≡ true
       by true same e = absurd (cc (e))
       by false other e = ap not (still_lives x (sound.alive_kept x (sound.members_are x ∙ e)) (turned id x ∙ other))
 
   row_live : (row : Row) → survives sc.directory.members id row ≡ true → has_live_owner after row ≡ true
   row_live row is = by row.owners is
     where
-      by : (os : List NodeId) → any_remains sc.directory.members id os ≡ true → has_live_owner after (record row { owners = os }) ≡ true
+      by : (os : List NodeId) → any_remains sc.directory.members id os ≡ true →
+          has_live_owner after (record row { owners = os }) ≡ true
       by [] none = refl
-      by (o ∷ os) some = any_change (remains sc.directory.members id) (λ (x : NodeId). not (is_lost after x)) (o ∷ os) remains_live some
+      by (o ∷ os) some = any_change (remains sc.directory.members id) (λ (x : NodeId). not (is_lost after x))
+          (o ∷ os) remains_live some
 
-  rows_live : (rows : List Row) → list_all (survives sc.directory.members id) rows ≡ true → list_all (has_live_owner after) rows ≡ true
+  rows_live : (rows : List Row) → list_all (survives sc.directory.members id) rows ≡ true →
+      list_all (has_live_owner after) rows ≡ true
   rows_live [] all = refl
   rows_live (row ∷ rows) all =
       let both = first_rest (survives sc.directory.members id row) (list_all (survives sc.directory.members id) rows) all in
@@ -119,14 +130,17 @@ module _ (sc : Scene) (id : NodeId) (sound : IsSound sc) (may : MayBeLost sc id)
         lives = still_lives may.at at_fits.not_lost at_lives.0;
         place = length events;
         within = longer events (topo.Left id ∷ []) (length events) (same_number (length events));
-        member = ap (λ (t : Topology). is_member t.members may.at) (more_events sc.scenario events (topo.Left id ∷ []) (length events) (same_number (length events))) ∙ at_fits.member;
-        has_it = noted_more sc.scenario sc.recs more may.at may.best.top (subst (IsNotedAt sc.scenario sc.recs may.at) may.has_best (i.survivors.noted may.at));
+        member = ap (λ (t : Topology). is_member t.members may.at) (more_events sc.scenario events (topo.Left id ∷ [])
+            (length events) (same_number (length events))) ∙ at_fits.member;
+        has_it = noted_more sc.scenario sc.recs more may.at may.best.top
+            (subst (IsNotedAt sc.scenario sc.recs may.at) may.has_best (i.survivors.noted may.at));
         is_highest = λ k lives.
             let before = lives_before sc id sound i.maps.maps k lives in
             let n = i.maps.maps.nodes k before.0 in
             subst (HoldsOfEach (λ (x : PartMap). IsUpTo x.top may.best.top)) (sym (at_same sc.scenario sc.recs more k refl))
             (each_at sc.scenario sc.recs k (λ (x : PartMap). IsUpTo x.top may.best.top)
-            (each_to (λ (x : PartMap). HasAtLeast x.top (sc.state k).installed) (λ (x : PartMap). IsUpTo x.top may.best.top) (maps_by k sc.recs) (λ x has. none_above k before.0 before.1 x.top has) n.has_last)
+            (each_to (λ (x : PartMap). HasAtLeast x.top (sc.state k).installed) (λ (x : PartMap). IsUpTo x.top may.best.top)
+            (maps_by k sc.recs) (λ x has. none_above k before.0 before.1 x.top has) n.has_last)
             (λ is. none_above k before.0 before.1 first_top (n.has_first is)));
         owned = rows_live may.best.rows may.keeps_owners;
       }
@@ -135,6 +149,13 @@ module _ (sc : Scene) (id : NodeId) (sound : IsSound sc) (may : MayBeLost sc id)
   loses_survivors = record {
     noted = λ k. noted_at_more sc.scenario sc.recs more k (sc.state k).installed (i.survivors.noted k);
     owners = owners;
-    fit = fit_parts sc.scenario es [] sc.recs more (fit_events sc.scenario sc.directory.events (topo.Left id ∷ []) [] sc.recs i.survivors.fit)
-        (tt, (subst (HasLiveOwners sc.scenario es) (sym (append_twice sc.recs (plan_records sc None) (one_record None (note.Lost id)))) owners, tt));
+    fit = fit_parts sc.scenario es [] sc.recs more (fit_events sc.scenario sc.directory.events (topo.Left id ∷ []) [] sc.recs
+        i.survivors.fit) (
+          tt,
+          (
+            subst (HasLiveOwners sc.scenario es)
+                (sym (append_twice sc.recs (plan_records sc None) (one_record None (note.Lost id)))) owners,
+            tt,
+          ),
+        );
   }

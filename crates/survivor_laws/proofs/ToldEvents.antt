@@ -1,4 +1,5 @@
--- What a good scenario's plan says of the topology events of a run: who joins is declared, with one flag a number, and cache 0 is
+-- What a good scenario's plan says of the topology events of a run: who joins is declared, with one flag a number, and cache
+-- 0 is
 -- never stopped.
 use Rattle.std.proofs.Common.{◌≡◌, ◌++◌, ◌&&◌, ◌||◌, ℕ, List, [], ◌∷◌, Option, Some, None, Bool, true, false, not, nat_eq, refl, ap, sym, subst, ◌∙◌, zero, suc, arith, IsTrue}
 use Rattle.std.specs.List.{flat_map, list_all, list_any}
@@ -62,7 +63,8 @@ each_right : {A : Type 0} (P : A → Type 0) (xs ys : List A) → HoldsOfEach P 
 each_right P [] ys all = all
 each_right P (x ∷ xs) ys all = each_right P xs ys all.1
 
-each_flat : {A B : Type 0} (P : B → Type 0) (f : A → List B) (xs : List A) → ((x : A) → HoldsOfEach P (f x)) → HoldsOfEach P (flat_map f xs)
+each_flat : {A B : Type 0} (P : B → Type 0) (f : A → List B) (xs : List A) → ((x : A) → HoldsOfEach P (f x)) →
+    HoldsOfEach P (flat_map f xs)
 each_flat P f [] all = tt
 each_flat P f (x ∷ xs) all = each_both P (f x) (flat_map f xs) (all x) (each_flat P f xs all)
 
@@ -75,7 +77,8 @@ none_any : {A : Type 0} (p : A → Bool) (xs : List A) → list_any p xs ≡ fal
 none_any p [] none = tt
 none_any p (x ∷ xs) none = by (λ e. none_any p xs e) (p x) refl none
   where
-    by : (list_any p xs ≡ false → HoldsOfEach (λ y. p y ≡ false) xs) → (c : Bool) → p x ≡ c → (c || list_any p xs) ≡ false → (p x ≡ false) × HoldsOfEach (λ y. p y ≡ false) xs
+    by : (list_any p xs ≡ false → HoldsOfEach (λ y. p y ≡ false) xs) → (c : Bool) → p x ≡ c → (c || list_any p xs) ≡ false →
+        (p x ≡ false) × HoldsOfEach (λ y. p y ≡ false) xs
     by later true is e = absurd (cc (e))
     by later false is e = (is, later e)
 
@@ -92,7 +95,8 @@ or_false : (b : Bool) → (b || false) ≡ b
 or_false true = refl
 or_false false = refl
 
-no_server : (xs : List Member) (x : NodeId) → HoldsOfEach (λ (m : Member). same_node x m.node ≡ false) xs → is_server_of xs x ≡ false
+no_server : (xs : List Member) (x : NodeId) → HoldsOfEach (λ (m : Member). same_node x m.node ≡ false) xs →
+    is_server_of xs x ≡ false
 no_server [] x apart = refl
 no_server (m ∷ ms) x apart = by (no_server ms x apart.1) m.server
   where
@@ -100,7 +104,8 @@ no_server (m ∷ ms) x apart = by (no_server ms x apart.1) m.server
     by rest true = rw apart.0 rest
     by rest false = rest
 
-still_flag : (x : Member) (all xs : List Member) → HoldsOfEach (λ (m : Member). same_node x.node m.node ≡ false) xs → HoldsOfEach (FlagIn all) xs → HoldsOfEach (FlagIn (x ∷ all)) xs
+still_flag : (x : Member) (all xs : List Member) → HoldsOfEach (λ (m : Member). same_node x.node m.node ≡ false) xs →
+    HoldsOfEach (FlagIn all) xs → HoldsOfEach (FlagIn (x ∷ all)) xs
 still_flag x all [] apart flags = tt
 still_flag x all (m ∷ ms) apart flags = (flags.0 ∙ sym (by x.server), still_flag x all ms apart.1 flags.1)
   where
@@ -115,10 +120,12 @@ flags_fit : (xs : List Member) → are_distinct same_member_node xs ≡ true →
 flags_fit [] apart = tt
 flags_fit (x ∷ xs) apart =
     let both = first_rest (not (list_any (same_member_node x) xs)) (are_distinct same_member_node xs) apart in
-    let others : HoldsOfEach (λ (m : Member). same_node x.node m.node ≡ false) xs = none_any (same_member_node x) xs (not_true (list_any (same_member_node x) xs) both.0) in
+    let others : HoldsOfEach (λ (m : Member). same_node x.node m.node ≡ false) xs =
+    none_any (same_member_node x) xs (not_true (list_any (same_member_node x) xs) both.0) in
     (own x.server others, still_flag x xs xs others (flags_fit xs both.1))
   where
-    own : (c : Bool) → HoldsOfEach (λ (m : Member). same_node x.node m.node ≡ false) xs → c ≡ ((c && same_node x.node x.node) || is_server_of xs x.node)
+    own : (c : Bool) → HoldsOfEach (λ (m : Member). same_node x.node m.node ≡ false) xs →
+        c ≡ ((c && same_node x.node x.node) || is_server_of xs x.node)
     own true others = rw (same_node_itself x.node) refl
     own false others = sym (no_server xs x.node others)
 
@@ -126,10 +133,13 @@ flags_fit (x ∷ xs) apart =
 
 module _ (s : Scenario) (is_good : IsTrue (good s)) where
   four : ((good_format s.format s.caches && good_caches s.caches && good_nodes s) ≡ true) × (good_plan s ≡ true)
-  four = first_rest (good_format s.format s.caches && good_caches s.caches && good_nodes s) (good_plan s) (first_rest (good_format s.format s.caches && good_caches s.caches && good_nodes s && good_plan s) (good_sessions s) is_good).0
+  four = first_rest (good_format s.format s.caches && good_caches s.caches && good_nodes s) (good_plan s)
+      (first_rest (good_format s.format s.caches && good_caches s.caches && good_nodes s && good_plan s)
+      (good_sessions s) is_good).0
 
   pub caches_good : good_caches s.caches ≡ true
-  caches_good = (first_rest (good_format s.format s.caches) (good_caches s.caches) (first_rest (good_format s.format s.caches && good_caches s.caches) (good_nodes s) four.0).0).1
+  caches_good = (first_rest (good_format s.format s.caches) (good_caches s.caches)
+      (first_rest (good_format s.format s.caches && good_caches s.caches) (good_nodes s) four.0).0).1
 
   pub some_good : good_nodes s ≡ true
   some_good = (first_rest (good_format s.format s.caches && good_caches s.caches) (good_nodes s) four.0).1
@@ -142,11 +152,15 @@ module _ (s : Scenario) (is_good : IsTrue (good s)) where
 
   steps_good : good_steps s.caches (members s) [] s.plan ≡ true
   steps_good =
-      let last = first_rest (nat_le (length s.plan) STEPS && list_all (λ (x : PlanStep). is_within 1 MOMENTS x.moment) s.plan && no_moment_falls s.plan && good_steps s.caches (members s) [] s.plan) (good_starts s.caches (filter_map (λ (x : PlanStep). starting x.step) s.plan)) four.1 in
-      (first_rest (nat_le (length s.plan) STEPS && list_all (λ (x : PlanStep). is_within 1 MOMENTS x.moment) s.plan && no_moment_falls s.plan) (good_steps s.caches (members s) [] s.plan) last.0).1
+      let last = first_rest (nat_le (length s.plan) STEPS && list_all (λ (x : PlanStep). is_within 1 MOMENTS x.moment) s.plan
+      && no_moment_falls s.plan && good_steps s.caches (members s) [] s.plan)
+      (good_starts s.caches (filter_map (λ (x : PlanStep). starting x.step) s.plan)) four.1 in
+      (first_rest (nat_le (length s.plan) STEPS && list_all (λ (x : PlanStep). is_within 1 MOMENTS x.moment) s.plan
+      && no_moment_falls s.plan) (good_steps s.caches (members s) [] s.plan) last.0).1
 
   -- those who join have the flags of their numbers
-  joins_fit : (plan : List PlanStep) → HoldsOfEach (FlagIn (members s)) (filter_map (λ (x : PlanStep). joining x.step) plan) → (k : ℕ) (x : PlanStep) (m : Member) → slice_get plan k ≡ Some x → x.step ≡ step.Join m → FlagIn (members s) m
+  joins_fit : (plan : List PlanStep) → HoldsOfEach (FlagIn (members s)) (filter_map (λ (x : PlanStep). joining x.step) plan) →
+      (k : ℕ) (x : PlanStep) (m : Member) → slice_get plan k ≡ Some x → x.step ≡ step.Join m → FlagIn (members s) m
   joins_fit [] all k x m there is = absurd (cc (there))
   joins_fit (y ∷ ys) all zero x m there is =
       let same : y ≡ x = cc (there) in
@@ -154,24 +168,31 @@ module _ (s : Scenario) (is_good : IsTrue (good s)) where
       (subst (HoldsOfEach (FlagIn (members s))) (map_some (λ (z : PlanStep). joining z.step) y ys m joins_it) all).0
   joins_fit (y ∷ ys) all (suc k) x m there is = by (λ rest. joins_fit ys rest k x m there is) (joining y.step) refl
     where
-      by : (HoldsOfEach (FlagIn (members s)) (filter_map (λ (z : PlanStep). joining z.step) ys) → FlagIn (members s) m) → (o : Option Member) → joining y.step ≡ o → FlagIn (members s) m
-      by later None none = later (subst (HoldsOfEach (FlagIn (members s))) (map_none (λ (z : PlanStep). joining z.step) y ys none) all)
-      by later (Some z) some = later (subst (HoldsOfEach (FlagIn (members s))) (map_some (λ (q : PlanStep). joining q.step) y ys z some) all).1
+      by : (HoldsOfEach (FlagIn (members s)) (filter_map (λ (z : PlanStep). joining z.step) ys) → FlagIn (members s) m) →
+          (o : Option Member) → joining y.step ≡ o → FlagIn (members s) m
+      by later None none = later
+          (subst (HoldsOfEach (FlagIn (members s))) (map_none (λ (z : PlanStep). joining z.step) y ys none) all)
+      by later (Some z) some =
+          later (subst (HoldsOfEach (FlagIn (members s))) (map_some (λ (q : PlanStep). joining q.step) y ys z some) all).1
 
   -- cache 0 is never stopped
-  stops_fit : (before : List Step) (plan : List PlanStep) → good_steps s.caches (members s) before plan ≡ true → (k : ℕ) (x : PlanStep) (cache : ℕ) → slice_get plan k ≡ Some x → x.step ≡ step.Stop cache → nat_eq 0 cache ≡ false
+  stops_fit : (before : List Step) (plan : List PlanStep) → good_steps s.caches (members s) before plan ≡ true →
+      (k : ℕ) (x : PlanStep) (cache : ℕ) → slice_get plan k ≡ Some x → x.step ≡ step.Stop cache → nat_eq 0 cache ≡ false
   stops_fit before [] all k x cache there is = absurd (cc (there))
   stops_fit before (y ∷ ys) all zero x cache there is =
-      let both = first_rest (good_step s.caches (members s) before y.step) (good_steps s.caches (members s) (before ++ y.step ∷ []) ys) all in
+      let both = first_rest (good_step s.caches (members s) before y.step)
+      (good_steps s.caches (members s) (before ++ y.step ∷ []) ys) all in
       let same : y ≡ x = cc (there) in
-      let can : can_stop s.caches before cache ≡ true = subst (λ (st : Step). good_step s.caches (members s) before st ≡ true) (ap (λ (z : PlanStep). z.step) same ∙ is) both.0 in
+      let can : can_stop s.caches before cache ≡ true = subst (λ (st : Step). good_step s.caches (members s) before st ≡ true)
+      (ap (λ (z : PlanStep). z.step) same ∙ is) both.0 in
       not_zero cache can
     where
       not_zero : (c : ℕ) → can_stop s.caches before c ≡ true → nat_eq 0 c ≡ false
       not_zero zero can = absurd (cc (can))
       not_zero (suc c) can = grind (arith, nat_tests)
   stops_fit before (y ∷ ys) all (suc k) x cache there is =
-      let both = first_rest (good_step s.caches (members s) before y.step) (good_steps s.caches (members s) (before ++ y.step ∷ []) ys) all in
+      let both = first_rest (good_step s.caches (members s) before y.step)
+      (good_steps s.caches (members s) (before ++ y.step ∷ []) ys) all in
       stops_fit (before ++ y.step ∷ []) ys both.1 k x cache there is
 
   step_fits : (k : ℕ) (x : PlanStep) → slice_get s.plan k ≡ Some x → HoldsOfEach (EventFits s) (event_of_step x.step)
@@ -180,7 +201,9 @@ module _ (s : Scenario) (is_good : IsTrue (good s)) where
       by : (st : Step) → x.step ≡ st → HoldsOfEach (EventFits s) (event_of_step st)
       by (step.Join m) is =
           let declared : is_member (declared_nodes s) m.node ≡ true =
-          list_any-append (λ (z : Member). same_node m.node z.node) s.nodes (flat_map joiner_of s.plan) ∙ or_second (is_member s.nodes m.node) (is_member (flat_map joiner_of s.plan) m.node) (planned_member s.plan k x m there is) in
+          list_any-append (λ (z : Member). same_node m.node z.node) s.nodes (flat_map joiner_of s.plan)
+          ∙ or_second (is_member s.nodes m.node) (is_member (flat_map joiner_of s.plan) m.node)
+          (planned_member s.plan k x m there is) in
           ((joins_fit s.plan (each_right (FlagIn (members s)) s.nodes joiners flags) k x m there is, declared), tt)
       by (step.Lose id) is = (tt, tt)
       by (step.Hold a b) is = tt
@@ -212,15 +235,22 @@ module _ (s : Scenario) (is_good : IsTrue (good s)) where
   first_declared : HoldsOfEach (IsDeclared s) s.nodes
   first_declared = by s.nodes (λ x is. is) (each_left (FlagIn (members s)) s.nodes joiners flags)
     where
-      by : (ms : List Member) → ((x : NodeId) → is_member ms x ≡ true → is_member s.nodes x ≡ true) → HoldsOfEach (FlagIn (members s)) ms → HoldsOfEach (IsDeclared s) ms
+      by : (ms : List Member) → ((x : NodeId) → is_member ms x ≡ true → is_member s.nodes x ≡ true) →
+          HoldsOfEach (FlagIn (members s)) ms → HoldsOfEach (IsDeclared s) ms
       by [] within all = tt
       by (m ∷ ms) within all =
-          let here : is_member s.nodes m.node ≡ true = within m.node (or_first (same_node m.node m.node) (is_member ms m.node) (same_node_itself m.node)) in (
-            (all.0, list_any-append (λ (z : Member). same_node m.node z.node) s.nodes (flat_map joiner_of s.plan) ∙ or_first (is_member s.nodes m.node) (is_member (flat_map joiner_of s.plan) m.node) here),
+          let here : is_member s.nodes m.node ≡ true =
+          within m.node (or_first (same_node m.node m.node) (is_member ms m.node) (same_node_itself m.node)) in (
+            (
+              all.0,
+              list_any-append (λ (z : Member). same_node m.node z.node) s.nodes (flat_map joiner_of s.plan)
+                  ∙ or_first (is_member s.nodes m.node) (is_member (flat_map joiner_of s.plan) m.node) here,
+            ),
             by ms (λ x is. within x (or_second (same_node x m.node) (is_member ms x) is)) all.1,
           )
 
-  later_declared : (t : Topology) (es : List TopoEvent) → HoldsOfEach (IsDeclared s) t.members → HoldsOfEach (EventFits s) es → HoldsOfEach (IsDeclared s) (last_topology t es).members
+  later_declared : (t : Topology) (es : List TopoEvent) → HoldsOfEach (IsDeclared s) t.members →
+      HoldsOfEach (EventFits s) es → HoldsOfEach (IsDeclared s) (last_topology t es).members
   later_declared t [] now fits = now
   later_declared t (e ∷ es) now fits = later_declared (topology_after t e) es (by e fits.0) fits.1
     where
@@ -231,5 +261,8 @@ module _ (s : Scenario) (is_good : IsTrue (good s)) where
       by (topo.Start cache) fit = now
       by (topo.Stop cache) fit = now
 
-  pub all_declared : (t : Topology) (es : List TopoEvent) (k : ℕ) → t.members ≡ s.nodes → HoldsOfEach (EventFits s) es → HoldsOfEach (IsDeclared s) (last_topology t (take k es)).members
-  all_declared t es k first fits = later_declared t (take k es) (subst (HoldsOfEach (IsDeclared s)) (sym first) first_declared) (each_taken (EventFits s) k es fits)
+  pub all_declared : (t : Topology) (es : List TopoEvent) (k : ℕ) → t.members ≡ s.nodes → HoldsOfEach (EventFits s) es →
+      HoldsOfEach (IsDeclared s) (last_topology t (take k es)).members
+  all_declared t es k first fits =
+      later_declared t (take k es) (subst (HoldsOfEach (IsDeclared s)) (sym first) first_declared)
+      (each_taken (EventFits s) k es fits)

@@ -28,7 +28,8 @@ abbrev pub IsNotedAt : Scenario → List Noted → NodeId → Option PartMap →
 IsNotedAt s recs node None = Unit {0}
 IsNotedAt s recs node (Some m) = is_noted_map s recs node m.top ≡ true
 
--- the highest map that a node which is not lost had installed, such a node, and a version that it was a member of; in the map each
+-- the highest map that a node which is not lost had installed, such a node, and a version that it was a member of; in the map
+-- each
 -- partition that has owners has one that is not lost
 pub record HasLiveOwners (s : Scenario) (events : List TopoEvent) (recs : List Noted) : Type 0 where
   pub map : PartMap
@@ -47,7 +48,8 @@ pub record HasLiveOwners (s : Scenario) (events : List TopoEvent) (recs : List N
 abbrev pub keeps_one : List Member → Row → Bool
 keeps_one members row = not (has_owner row) || list_any (is_member members) row.owners
 
--- a map is the next map of its version over the map that is the highest one of these Singles; that one is installed, and each of
+-- a map is the next map of its version over the map that is the highest one of these Singles; that one is installed, and each
+-- of
 -- its partitions that has owners has one among the members of the version
 pub record IsOnOwnedBase (s : Scenario) (events : List TopoEvent) (before : List Noted) (m : PartMap) : Type 0 where
   pub place : ℕ

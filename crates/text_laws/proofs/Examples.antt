@@ -37,11 +37,13 @@ small = record {
   sessions = record {
     name = codes "A";
     node = record { 0 = 20 };
-    commands = Next (record { cache = 1; text = codes "s" }) ∷ Plain (command.Add (record { cache = 2; text = codes "k.1" }) (negsuc 4)) ∷ [];
+    commands = Next (record { cache = 1; text = codes "s" }) ∷ Plain (command.Add (record { cache = 2; text = codes "k.1" })
+        (negsuc 4)) ∷ [];
   } ∷ [];
 }
 
-small_text : scenario_text small ≡ codes "scenario 2\ncache c 4 1 0\ndata d 4 1 0\nserver 1\nplan 3 start e 4 1 0\nplan 3 join 20 client\nplan 9 stop e\nsession A 20\nnext d/s\nadd e/k.1 -5\nend\n"
+small_text : scenario_text small
+    ≡ codes "scenario 2\ncache c 4 1 0\ndata d 4 1 0\nserver 1\nplan 3 start e 4 1 0\nplan 3 join 20 client\nplan 9 stop e\nsession A 20\nnext d/s\nadd e/k.1 -5\nend\n"
 unfolding digits
 small_text = refl
 

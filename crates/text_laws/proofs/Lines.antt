@@ -31,7 +31,8 @@ setting_words word n = word ∷ decimal n ∷ []
 abbrev pub first_lines : List Cache → List (List (List ℕ))
 first_lines [] = []
 first_lines (cache ∷ more) =
-    setting_words (codes "parts") cache.parts ∷ setting_words (codes "backups") cache.backups ∷ setting_words (codes "near") cache.near ∷ []
+    setting_words (codes "parts") cache.parts ∷ setting_words (codes "backups") cache.backups ∷ setting_words
+    (codes "near") cache.near ∷ []
 
 abbrev pub head_lines : Scenario → List (List (List ℕ))
 head_lines s =
@@ -80,7 +81,9 @@ item_words s (Poll key) = codes "poll" ∷ key_text s key ∷ []
 
 abbrev pub session_lines : Scenario → Session → List (List (List ℕ))
 session_lines s session =
-    (codes "session" ∷ session.name ∷ decimal session.node.0 ∷ []) ∷ (map (item_words s) session.commands ++ ((codes "end" ∷ []) ∷ []))
+    (codes "session" ∷ session.name ∷ decimal session.node.0 ∷ [])
+    ∷ (map (item_words s) session.commands ++ ((codes "end" ∷ []) ∷ []))
 
 abbrev pub all_lines : Scenario → List (List (List ℕ))
-all_lines s = head_lines s ++ (map member_words s.nodes ++ (map (planned_words s) s.plan ++ flat_map (session_lines s) s.sessions))
+all_lines s = head_lines s
+    ++ (map member_words s.nodes ++ (map (planned_words s) s.plan ++ flat_map (session_lines s) s.sessions))

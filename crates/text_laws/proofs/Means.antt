@@ -106,7 +106,9 @@ cache_meant c g =
     let w = four c h in
     record {
       line = rw (w.name, w.parts, w.backups, w.near) refl;
-      means = rw (name-read c.name h.name) (rw (number-decimal c.parts w.small_parts) (rw (number-decimal c.backups w.small_backups) (rw (number-decimal c.near w.small_near) refl)));
+      means = rw (name-read c.name h.name)
+          (rw (number-decimal c.parts w.small_parts)
+          (rw (number-decimal c.backups w.small_backups) (rw (number-decimal c.near w.small_near) refl)));
     }
 
 pub data_meant : (c : Cache) → good_cache c ≡ true → Meant 2 (codes "data" ∷ shape_words c) (line.Cache true (words_of c))
@@ -115,7 +117,9 @@ data_meant c g =
     let w = four c h in
     record {
       line = rw (w.name, w.parts, w.backups, w.near) refl;
-      means = rw (name-read c.name h.name) (rw (number-decimal c.parts w.small_parts) (rw (number-decimal c.backups w.small_backups) (rw (number-decimal c.near w.small_near) refl)));
+      means = rw (name-read c.name h.name)
+          (rw (number-decimal c.parts w.small_parts)
+          (rw (number-decimal c.backups w.small_backups) (rw (number-decimal c.near w.small_near) refl)));
     }
 
 -- nodes
@@ -123,7 +127,9 @@ data_meant c g =
 small_node : (n : ℕ) → is_within 1 99 n ≡ true → n < 10000000
 small_node n h = let m = within_most 1 99 n h in omega arith
 
-pub member_meant : (f n : ℕ) (server : Bool) → is_within 1 99 n ≡ true → Meant f (member_words (record { node = record { 0 = n }; server = server })) (line.Member (record { node = record { 0 = n }; server = server }))
+pub member_meant : (f n : ℕ) (server : Bool) → is_within 1 99 n ≡ true →
+    Meant f (member_words (record { node = record { 0 = n }; server = server }))
+    (line.Member (record { node = record { 0 = n }; server = server }))
 member_meant f n true h =
     let w = decimal-word n (small_node n h) in
     let r = number-decimal n (small_node n h) in
@@ -139,40 +145,66 @@ small_moment : (m : ℕ) → is_within 1 1000000 m ≡ true → m < 10000000
 small_moment m h = let k = within_most 1 1000000 m h in omega arith
 
 pub join_meant : (f m n : ℕ) (server : Bool) → is_within 1 1000000 m ≡ true → is_within 1 99 n ≡ true
-    → Meant f (codes "plan" ∷ decimal m ∷ codes "join" ∷ decimal n ∷ role_text server ∷ []) (line.Join m (record { node = record { 0 = n }; server = server }))
+    → Meant f (codes "plan" ∷ decimal m ∷ codes "join" ∷ decimal n ∷ role_text server ∷ [])
+    (line.Join m (record { node = record { 0 = n }; server = server }))
 join_meant f m n true h k =
     let v = decimal-word m (small_moment m h) in
     let w = decimal-word n (small_node n k) in
-    record { line = rw (v, w) refl; means = rw (number-decimal m (small_moment m h)) (rw (number-decimal n (small_node n k)) refl) }
+    record {
+      line = rw (v, w) refl;
+      means =
+          rw (number-decimal m (small_moment m h)) (rw (number-decimal n (small_node n k)) refl);
+    }
 join_meant f m n false h k =
     let v = decimal-word m (small_moment m h) in
     let w = decimal-word n (small_node n k) in
-    record { line = rw (v, w) refl; means = rw (number-decimal m (small_moment m h)) (rw (number-decimal n (small_node n k)) refl) }
+    record {
+      line = rw (v, w) refl;
+      means =
+          rw (number-decimal m (small_moment m h)) (rw (number-decimal n (small_node n k)) refl);
+    }
 
 pub lose_meant : (f m n : ℕ) → is_within 1 1000000 m ≡ true → is_within 1 99 n ≡ true
     → Meant f (codes "plan" ∷ decimal m ∷ codes "lose" ∷ decimal n ∷ []) (line.Links m (step.Lose (record { 0 = n })))
 lose_meant f m n h k =
     let v = decimal-word m (small_moment m h) in
     let w = decimal-word n (small_node n k) in
-    record { line = rw (v, w) refl; means = rw (number-decimal m (small_moment m h)) (rw (number-decimal n (small_node n k)) refl) }
+    record {
+      line = rw (v, w) refl;
+      means =
+          rw (number-decimal m (small_moment m h)) (rw (number-decimal n (small_node n k)) refl);
+    }
 
 pub hold_meant : (f m a b : ℕ) → is_within 1 1000000 m ≡ true → is_within 1 99 a ≡ true → is_within 1 99 b ≡ true
-    → Meant f (codes "plan" ∷ decimal m ∷ codes "hold" ∷ decimal a ∷ decimal b ∷ []) (line.Links m (step.Hold (record { 0 = a }) (record { 0 = b })))
+    → Meant f (codes "plan" ∷ decimal m ∷ codes "hold" ∷ decimal a ∷ decimal b ∷ [])
+    (line.Links m (step.Hold (record { 0 = a }) (record { 0 = b })))
 hold_meant f m a b h k l =
     let v = decimal-word m (small_moment m h) in
     let w = decimal-word a (small_node a k) in
     let x = decimal-word b (small_node b l) in
-    record { line = rw v (rw w (rw x refl)); means = rw (number-decimal m (small_moment m h)) (rw (number-decimal a (small_node a k)) (rw (number-decimal b (small_node b l)) refl)) }
+    record {
+      line = rw v (rw w (rw x refl));
+      means =
+          rw (number-decimal m (small_moment m h))
+          (rw (number-decimal a (small_node a k)) (rw (number-decimal b (small_node b l)) refl));
+    }
 
 pub release_meant : (f m a b : ℕ) → is_within 1 1000000 m ≡ true → is_within 1 99 a ≡ true → is_within 1 99 b ≡ true
-    → Meant f (codes "plan" ∷ decimal m ∷ codes "release" ∷ decimal a ∷ decimal b ∷ []) (line.Links m (step.Release (record { 0 = a }) (record { 0 = b })))
+    → Meant f (codes "plan" ∷ decimal m ∷ codes "release" ∷ decimal a ∷ decimal b ∷ [])
+    (line.Links m (step.Release (record { 0 = a }) (record { 0 = b })))
 release_meant f m a b h k l =
     let v = decimal-word m (small_moment m h) in
     let w = decimal-word a (small_node a k) in
     let x = decimal-word b (small_node b l) in
-    record { line = rw v (rw w (rw x refl)); means = rw (number-decimal m (small_moment m h)) (rw (number-decimal a (small_node a k)) (rw (number-decimal b (small_node b l)) refl)) }
+    record {
+      line = rw v (rw w (rw x refl));
+      means =
+          rw (number-decimal m (small_moment m h))
+          (rw (number-decimal a (small_node a k)) (rw (number-decimal b (small_node b l)) refl));
+    }
 
-pub start_meant : (m : ℕ) (c : Cache) → is_within 1 1000000 m ≡ true → good_cache c ≡ true → Meant 2 (codes "plan" ∷ decimal m ∷ codes "start" ∷ shape_words c) (line.Start m (words_of c))
+pub start_meant : (m : ℕ) (c : Cache) → is_within 1 1000000 m ≡ true → good_cache c ≡ true →
+    Meant 2 (codes "plan" ∷ decimal m ∷ codes "start" ∷ shape_words c) (line.Start m (words_of c))
 start_meant m c k g =
     let v = decimal-word m (small_moment m k) in
     let h = cache_fits c g in
@@ -180,10 +212,13 @@ start_meant m c k g =
     record {
       line = rw v (rw (w.name, w.parts, w.backups, w.near) refl);
       means = rw (number-decimal m (small_moment m k))
-          (rw (name-read c.name h.name) (rw (number-decimal c.parts w.small_parts) (rw (number-decimal c.backups w.small_backups) (rw (number-decimal c.near w.small_near) refl))));
+          (rw (name-read c.name h.name)
+          (rw (number-decimal c.parts w.small_parts)
+          (rw (number-decimal c.backups w.small_backups) (rw (number-decimal c.near w.small_near) refl))));
     }
 
-pub stop_meant : (m : ℕ) (name : List ℕ) → is_within 1 1000000 m ≡ true → is_name name ≡ true → Meant 2 (codes "plan" ∷ decimal m ∷ codes "stop" ∷ name ∷ []) (line.Stop m (Some name))
+pub stop_meant : (m : ℕ) (name : List ℕ) → is_within 1 1000000 m ≡ true → is_name name ≡ true →
+    Meant 2 (codes "plan" ∷ decimal m ∷ codes "stop" ∷ name ∷ []) (line.Stop m (Some name))
 stop_meant m name k h =
     let v = decimal-word m (small_moment m k) in
     let w = name-word name h in
@@ -201,7 +236,8 @@ session_meant f n name h k =
 pub end_meant : (f : ℕ) → Meant f (codes "end" ∷ []) line.End
 end_meant f = record { line = refl; means = refl }
 
-pub begin_meant : (f t : ℕ) (m : Mode) → t ≤ 1000000 → Meant f (codes "begin" ∷ mode_text m ∷ decimal t ∷ []) (line.Bare (command.Begin m t))
+pub begin_meant : (f t : ℕ) (m : Mode) → t ≤ 1000000 → Meant f (codes "begin" ∷ mode_text m ∷ decimal t ∷ [])
+    (line.Bare (command.Begin m t))
 begin_meant f t Pessimistic h =
     let l : t < 10000000 = omega arith in
     let w = decimal-word t l in
@@ -219,7 +255,8 @@ commit_meant f = record { line = refl; means = refl }
 pub rollback_meant : (f : ℕ) → Meant f (codes "rollback" ∷ []) (line.Bare command.Rollback)
 rollback_meant f = record { line = refl; means = refl }
 
-pub sleep_meant : (f m : ℕ) → is_within 1 1000000 m ≡ true → Meant f (codes "sleep" ∷ decimal m ∷ []) (line.Bare (command.Sleep m))
+pub sleep_meant : (f m : ℕ) → is_within 1 1000000 m ≡ true →
+    Meant f (codes "sleep" ∷ decimal m ∷ []) (line.Bare (command.Sleep m))
 sleep_meant f m h =
     let w = decimal-word m (small_moment m h) in
     let r = number-decimal m (small_moment m h) in
@@ -235,14 +272,25 @@ pub record KeyMeant (f : ℕ) (w : List ℕ) (k : KeyWords) : Type 0 where
 pub get_meant : (f : ℕ) (w : List ℕ) (k : KeyWords) → KeyMeant f w k → Meant f (codes "get" ∷ w ∷ []) (line.Keyed verb.Get k)
 get_meant f w k h = let v = h.word in let m = h.means in record { line = rw v refl; means = rw m refl }
 
-pub remove_meant : (f : ℕ) (w : List ℕ) (k : KeyWords) → KeyMeant f w k → Meant f (codes "remove" ∷ w ∷ []) (line.Keyed verb.Remove k)
+pub remove_meant : (f : ℕ) (w : List ℕ) (k : KeyWords) → KeyMeant f w k →
+    Meant f (codes "remove" ∷ w ∷ []) (line.Keyed verb.Remove k)
 remove_meant f w k h = let v = h.word in let m = h.means in record { line = rw v refl; means = rw m refl }
 
-pub put_meant : (f : ℕ) (w x : List ℕ) (k : KeyWords) → KeyMeant f w k → good_value x ≡ true → Meant f (codes "put" ∷ w ∷ x ∷ []) (line.Keyed (verb.Put (Some x)) k)
-put_meant f w x k h g = let v = h.word in let m = h.means in record { line = rw v (rw (value-word x g) refl); means = rw m (rw (value-read x g) refl) }
+pub put_meant : (f : ℕ) (w x : List ℕ) (k : KeyWords) → KeyMeant f w k → good_value x ≡ true →
+    Meant f (codes "put" ∷ w ∷ x ∷ []) (line.Keyed (verb.Put (Some x)) k)
+put_meant f w x k h g = let v = h.word in let m = h.means in record {
+  line = rw v (rw (value-word x g) refl);
+  means =
+      rw m (rw (value-read x g) refl);
+}
 
-pub add_meant : (f : ℕ) (w : List ℕ) (i : ℤ) (k : KeyWords) → KeyMeant f w k → is_long i ≡ true → Meant f (codes "add" ∷ w ∷ signed_decimal i ∷ []) (line.Keyed (verb.Add i) k)
-add_meant f w i k h g = let v = h.word in let m = h.means in record { line = rw v (rw (integer-word i g) refl); means = rw m (rw (integer-decimal i g) refl) }
+pub add_meant : (f : ℕ) (w : List ℕ) (i : ℤ) (k : KeyWords) → KeyMeant f w k → is_long i ≡ true →
+    Meant f (codes "add" ∷ w ∷ signed_decimal i ∷ []) (line.Keyed (verb.Add i) k)
+add_meant f w i k h g = let v = h.word in let m = h.means in record {
+  line = rw v (rw (integer-word i g) refl);
+  means =
+      rw m (rw (integer-decimal i g) refl);
+}
 
 -- commands on objects
 
@@ -250,14 +298,24 @@ pub record ObjectMeant (w : List ℕ) (k : KeyWords) : Type 0 where
   pub word : is_word w ≡ true
   pub means : object_words w ≡ Ok k
 
-pub incr_meant : (w : List ℕ) (i : ℤ) (k : KeyWords) → ObjectMeant w k → is_long i ≡ true → Meant 2 (codes "incr" ∷ w ∷ signed_decimal i ∷ []) (line.Keyed (verb.Incr i) k)
-incr_meant w i k h g = let v = h.word in let m = h.means in record { line = rw v (rw (integer-word i g) refl); means = rw m (rw (integer-decimal i g) refl) }
+pub incr_meant : (w : List ℕ) (i : ℤ) (k : KeyWords) → ObjectMeant w k → is_long i ≡ true →
+    Meant 2 (codes "incr" ∷ w ∷ signed_decimal i ∷ []) (line.Keyed (verb.Incr i) k)
+incr_meant w i k h g = let v = h.word in let m = h.means in record {
+  line = rw v (rw (integer-word i g) refl);
+  means =
+      rw m (rw (integer-decimal i g) refl);
+}
 
 pub next_meant : (w : List ℕ) (k : KeyWords) → ObjectMeant w k → Meant 2 (codes "next" ∷ w ∷ []) (line.Keyed verb.Next k)
 next_meant w k h = let v = h.word in let m = h.means in record { line = rw v refl; means = rw m refl }
 
-pub offer_meant : (w x : List ℕ) (k : KeyWords) → ObjectMeant w k → good_value x ≡ true → Meant 2 (codes "offer" ∷ w ∷ x ∷ []) (line.Keyed (verb.Offer (Some x)) k)
-offer_meant w x k h g = let v = h.word in let m = h.means in record { line = rw v (rw (value-word x g) refl); means = rw m (rw (value-read x g) refl) }
+pub offer_meant : (w x : List ℕ) (k : KeyWords) → ObjectMeant w k → good_value x ≡ true →
+    Meant 2 (codes "offer" ∷ w ∷ x ∷ []) (line.Keyed (verb.Offer (Some x)) k)
+offer_meant w x k h g = let v = h.word in let m = h.means in record {
+  line = rw v (rw (value-word x g) refl);
+  means =
+      rw m (rw (value-read x g) refl);
+}
 
 pub poll_meant : (w : List ℕ) (k : KeyWords) → ObjectMeant w k → Meant 2 (codes "poll" ∷ w ∷ []) (line.Keyed verb.Poll k)
 poll_meant w k h = let v = h.word in let m = h.means in record { line = rw v refl; means = rw m refl }

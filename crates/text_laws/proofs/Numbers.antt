@@ -23,7 +23,8 @@ digits_all : (w : List ℕ) → AllDigits 10 w → list_all is_digit w ≡ true
 digits_all [] h = refl
 digits_all (c ∷ cs) h =
     let r = digit_from_value c h.0 in
-    and_from (is_digit c) (list_all is_digit cs) (and_from (nat_le 48 c) (nat_le c 57) (le-leb 48 c (omega (arith, r))) (le-leb c 57 (omega (arith, r)))) (digits_all cs h.1)
+    and_from (is_digit c) (list_all is_digit cs) (and_from (nat_le 48 c) (nat_le c 57) (le-leb 48 c (omega (arith, r)))
+    (le-leb c 57 (omega (arith, r)))) (digits_all cs h.1)
 
 pub spells-decimal : (n : ℕ) → n < 2 ^ 64 → Spells n (decimal n)
 spells-decimal n h =
@@ -62,10 +63,12 @@ naturals most n (b ∷ w) s f l m =
 
 natural-decimal : (most n : ℕ) → 0 < n → n ≤ most → most < 10000000000000000000 → natural_of_word most (decimal n) ≡ Ok n
 natural-decimal most n p m l =
-    naturals most n (decimal n) (spells-decimal n (omega arith)) (first_decimal n p (omega arith)) (length-decimal-le 19 n (lit< tt) (omega arith) (omega arith)) m
+    naturals most n (decimal n) (spells-decimal n (omega arith)) (first_decimal n p (omega arith))
+    (length-decimal-le 19 n (lit< tt) (omega arith) (omega arith)) m
 
 -- a number from 1 on is read as a natural number
-positive : (w : List ℕ) (n : ℕ) → 48 < get_or w 0 0 → list_all is_digit w ≡ true → natural_of_word 9223372036854775807 w ≡ Ok n → integer w ≡ Ok (pos n)
+positive : (w : List ℕ) (n : ℕ) → 48 < get_or w 0 0 → list_all is_digit w ≡ true →
+    natural_of_word 9223372036854775807 w ≡ Ok n → integer w ≡ Ok (pos n)
 positive [] n f d e = absurd (omega (arith, f))
 positive (b ∷ w) n f d e =
     let other : (b == 48) ≡ false = ne_eqb b 48 (λ e. omega (arith, f)) in
@@ -89,7 +92,8 @@ pub integer-decimal : (i : ℤ) → is_long i ≡ true → integer (signed_decim
 integer-decimal (pos zero) h = zero-read
 integer-decimal (pos (suc n)) h =
     let most : suc n ≤ 9223372036854775807 = leb-true (suc n) 9223372036854775807 h in
-    positive (decimal (suc n)) (suc n) (first_decimal (suc n) (omega arith) (omega arith)) (spells-decimal (suc n) (omega arith)).all
+    positive (decimal (suc n)) (suc n) (first_decimal (suc n) (omega arith) (omega arith))
+    (spells-decimal (suc n) (omega arith)).all
     (natural-decimal 9223372036854775807 (suc n) (omega arith) most (lit< tt))
 integer-decimal (negsuc n) h =
     let most : n ≤ 9223372036854775807 = leb-true n 9223372036854775807 h in

@@ -31,13 +31,19 @@ cons-append (Some x) xs ys = refl
 
 objects-append : (xs ys : List Item) → filter_map object_of (xs ++ ys) ≡ filter_map object_of xs ++ filter_map object_of ys
 objects-append [] ys = refl
-objects-append (x ∷ xs) ys = ap (cons_option (object_of x)) (objects-append xs ys) ∙ sym (cons-append (object_of x) (filter_map object_of xs) (filter_map object_of ys))
+objects-append (x ∷ xs) ys = ap (cons_option (object_of x)) (objects-append xs ys)
+    ∙ sym (cons-append (object_of x) (filter_map object_of xs) (filter_map object_of ys))
 
 -- the commands of a session
 
 -- the draft behind some commands
 abbrev behind_items : Draft → Bool → List (Key × Kind) → List Item → Draft
-behind_items d opened objects xs = record d { place = script_place opened; objects = objects; session = record d.session { commands = d.session.commands ++ xs } }
+behind_items d opened objects xs = record d {
+  place = script_place opened;
+  objects = objects;
+  session =
+      record d.session { commands = d.session.commands ++ xs };
+}
 
 record ItemsFit (s : Scenario) (d : Draft) (opened : Bool) (xs : List Item) (left : List (Key × ObjectKind)) : Type 0 where
   format : d.format ≡ s.format
@@ -58,12 +64,19 @@ record ItemsTaken (s : Scenario) (d : Draft) (xs : List Item) (left : List (Key 
   kinds : good_kinds left ≡ true
 
 -- the draft behind a command and those that follow it
-one_more : (d : Draft) (now later : Bool) (known all : List (Key × Kind)) (x : Item) (xs : List Item) (r : Result Draft Cause) → r ≡ Ok (behind_items (behind_item d now known x) later all xs)
+one_more : (d : Draft) (now later : Bool) (known all : List (Key × Kind)) (x : Item) (xs : List Item)
+    (r : Result Draft Cause) → r ≡ Ok (behind_items (behind_item d now known x) later all xs)
     → r ≡ Ok (behind_items d later all (x ∷ xs))
 one_more d now later known all x xs r h =
-    h ∙ ap (λ commands. Ok (record d { place = script_place later; objects = all; session = record d.session { commands = commands } })) (append_assoc d.session.commands (x ∷ []) xs)
+    h ∙ ap (λ commands. Ok (record d {
+      place = script_place later;
+      objects = all;
+      session =
+          record d.session { commands = commands };
+    })) (append_assoc d.session.commands (x ∷ []) xs)
 
-items_taken : (s : Scenario) (xs : List Item) (d : Draft) (opened : Bool) (left : List (Key × ObjectKind)) → Whole s → ItemsFit s d opened xs left → ItemsTaken s d xs left
+items_taken : (s : Scenario) (xs : List Item) (d : Draft) (opened : Bool) (left : List (Key × ObjectKind)) → Whole s →
+    ItemsFit s d opened xs left → ItemsTaken s d xs left
 items_taken s [] d opened left w f = record {
   opened = opened;
   objects = d.objects;
@@ -72,14 +85,20 @@ items_taken s [] d opened left w f = record {
   kinds = f.kinds;
 }
   where
-    same : (p q : _) (commands : List Item) → p ≡ q → record d { place = p; session = record d.session { commands = commands } } ≡ record d { place = q; session = record d.session { commands = commands ++ [] } }
+    same : (p q : _) (commands : List Item) → p ≡ q →
+        record d { place = p; session = record d.session { commands = commands } } ≡ record d {
+          place = q;
+          session =
+              record d.session { commands = commands ++ [] };
+        }
     same p q commands e = λ i. record d { place = e i; session = record d.session { commands = sym (append-nil commands) i } }
 items_taken s (x ∷ xs) d opened left w f =
     let goods = and_parts (good_item s.caches x) (list_all (good_item s.caches) xs) f.good in
     let longs = and_parts (has_long x) (list_all has_long xs) f.long in
     let blocks = and_parts (is_plain x || not opened) (good_blocks (open_behind opened x) xs) f.blocks in
     let joined = cons-append (object_of x) (filter_map object_of xs) left in
-    let longer : length (d.session.commands ++ x ∷ []) ≡ length d.session.commands + 1 = length-append d.session.commands (x ∷ []) in
+    let longer : length (d.session.commands ++ x ∷ []) ≡ length d.session.commands + 1 =
+    length-append d.session.commands (x ∷ []) in
     let one = item_taken s d opened x (filter_map object_of xs ++ left) w (record {
       format = f.format;
       caches = f.caches;
@@ -105,8 +124,10 @@ items_taken s (x ∷ xs) d opened left w f =
     record {
       opened = more.opened;
       objects = more.objects;
-      took = taken_first d (behind_item d (open_behind opened x) one.objects x) (behind_items d more.opened more.objects (x ∷ xs)) (item_words s x) (map (item_words s) xs) one.took
-          (one_more d (open_behind opened x) more.opened one.objects more.objects x xs (all_taken (behind_item d (open_behind opened x) one.objects x) (map (item_words s) xs)) more.took);
+      took = taken_first d (behind_item d (open_behind opened x) one.objects x)
+          (behind_items d more.opened more.objects (x ∷ xs)) (item_words s x) (map (item_words s) xs) one.took
+          (one_more d (open_behind opened x) more.opened one.objects more.objects x xs
+          (all_taken (behind_item d (open_behind opened x) one.objects x) (map (item_words s) xs)) more.took);
       agree = more.agree;
       kinds = more.kinds;
     }
@@ -126,7 +147,13 @@ record SessionFits (s : Scenario) (d : Draft) (x : Session) (left : List (Key ×
 
 -- the draft behind a session
 abbrev behind_session : Draft → List (Key × Kind) → Session → Draft
-behind_session d objects x = record d { place = place.Sessions; objects = objects; sessions = d.sessions ++ x ∷ []; session = no_session }
+behind_session d objects x = record d {
+  place = place.Sessions;
+  objects = objects;
+  sessions = d.sessions ++ x ∷ [];
+  session =
+      no_session;
+}
 
 record SessionTaken (s : Scenario) (d : Draft) (x : Session) (left : List (Key × ObjectKind)) : Type 0 where
   objects : List (Key × Kind)
@@ -144,8 +171,10 @@ record GoodSession (s : Scenario) (x : Session) : Type 0 where
 
 good_parts : (s : Scenario) (x : Session) → good_session s.caches (members s) x ≡ true → GoodSession s x
 good_parts s x h =
-    let a = and_parts (is_name x.name && has_member (members s) x.node && nat_le (length x.commands) 1000 && list_all (good_item s.caches) x.commands) (good_blocks false x.commands) h in
-    let b = and_parts (is_name x.name && has_member (members s) x.node && nat_le (length x.commands) 1000) (list_all (good_item s.caches) x.commands) a.0 in
+    let a = and_parts (is_name x.name && has_member (members s) x.node && nat_le (length x.commands) 1000
+    && list_all (good_item s.caches) x.commands) (good_blocks false x.commands) h in
+    let b = and_parts (is_name x.name && has_member (members s) x.node && nat_le (length x.commands) 1000)
+    (list_all (good_item s.caches) x.commands) a.0 in
     let c = and_parts (is_name x.name && has_member (members s) x.node) (nat_le (length x.commands) 1000) b.0 in
     let e = and_parts (is_name x.name) (has_member (members s) x.node) c.0 in
     record { name = e.0; node = e.1; few = leb-true _ 1000 c.1; each = b.1; blocks = a.1 }
@@ -154,18 +183,22 @@ good_parts s x h =
 abbrev begun : Draft → Session → Draft
 begun d x = record d { place = place.Script; session = record { name = x.name; node = x.node; commands = [] } }
 
-begin_step : (d : Draft) (x : Session) → may_follow d.place place.Sessions ≡ true → is_within 1 99 x.node.0 ≡ true → length d.sessions < 64 → is_named d.named x.node ≡ true → has_session d.sessions x.name ≡ false
+begin_step : (d : Draft) (x : Session) → may_follow d.place place.Sessions ≡ true → is_within 1 99 x.node.0 ≡ true →
+    length d.sessions < 64 → is_named d.named x.node ≡ true → has_session d.sessions x.name ≡ false
     → with_session d (Some x.name) x.node ≡ Ok (begun d x)
 begin_step d x st within few called new = rw (st, within, lt-ltb _ 64 few, called, new) refl
 
-end_step : (d : Draft) (opened : Bool) (objects : List (Key × Kind)) (x : Session) → with_end (behind_items (begun d x) opened objects x.commands) ≡ Ok (behind_session d objects x)
+end_step : (d : Draft) (opened : Bool) (objects : List (Key × Kind)) (x : Session) →
+    with_end (behind_items (begun d x) opened objects x.commands) ≡ Ok (behind_session d objects x)
 end_step d opened objects x = rw (inside opened) refl
 
-session_taken : (s : Scenario) (d : Draft) (x : Session) (left : List (Key × ObjectKind)) → Whole s → Known s d.named → SessionFits s d x left → SessionTaken s d x left
+session_taken : (s : Scenario) (d : Draft) (x : Session) (left : List (Key × ObjectKind)) → Whole s → Known s d.named →
+    SessionFits s d x left → SessionTaken s d x left
 session_taken s d x left w k f =
     let g = good_parts s x f.good in
     let within = within_of (members s) x.node g.node k.within in
-    let one = taken_meant d _ _ (session_meant d.format x.node.0 x.name g.name within) ∙ begin_step d x f.stands within f.room (k.named x.node g.node) f.new in
+    let one = taken_meant d _ _ (session_meant d.format x.node.0 x.name g.name within)
+    ∙ begin_step d x f.stands within f.room (k.named x.node g.node) f.new in
     let items = items_taken s x.commands (begun d x) false left w (record {
       format = f.format;
       caches = f.caches;
@@ -182,8 +215,10 @@ session_taken s d x left w k f =
     let last = taken_meant after _ _ (end_meant after.format) ∙ end_step d items.opened items.objects x in
     record {
       objects = items.objects;
-      took = taken_first d (begun d x) whole (codes "session" ∷ x.name ∷ decimal x.node.0 ∷ []) (map (item_words s) x.commands ++ ((codes "end" ∷ []) ∷ [])) one
-          (taken_both (map (item_words s) x.commands) ((codes "end" ∷ []) ∷ []) (begun d x) after whole items.took (taken_first after whole whole (codes "end" ∷ []) [] last refl));
+      took = taken_first d (begun d x) whole (codes "session" ∷ x.name ∷ decimal x.node.0 ∷ [])
+          (map (item_words s) x.commands ++ ((codes "end" ∷ []) ∷ [])) one
+          (taken_both (map (item_words s) x.commands) ((codes "end" ∷ []) ∷ []) (begun d x) after whole items.took
+          (taken_first after whole whole (codes "end" ∷ []) [] last refl));
       agree = items.agree;
       kinds = items.kinds;
     }
@@ -214,7 +249,8 @@ pub record SessionsTaken (s : Scenario) (d : Draft) (xs : List Session) : Type 0
   pub plan : next.plan ≡ d.plan
   pub sessions : next.sessions ≡ d.sessions ++ xs
 
-pub sessions_taken : (s : Scenario) (xs : List Session) (d : Draft) → Whole s → Known s d.named → SessionsFit s d xs → SessionsTaken s d xs
+pub sessions_taken : (s : Scenario) (xs : List Session) (d : Draft) → Whole s → Known s d.named → SessionsFit s d xs →
+    SessionsTaken s d xs
 sessions_taken s [] d w k f = record {
   next = d;
   took = refl;
@@ -254,7 +290,8 @@ sessions_taken s (x ∷ xs) d w k f =
     }) in
     record {
       next = more.next;
-      took = taken_both (session_lines s x) (flat_map (session_lines s) xs) d (behind_session d one.objects x) more.next one.took more.took;
+      took = taken_both (session_lines s x) (flat_map (session_lines s) xs) d (behind_session d one.objects x) more.next
+          one.took more.took;
       format = more.format;
       stands = more.stands;
       caches = more.caches;

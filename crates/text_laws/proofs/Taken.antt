@@ -25,15 +25,19 @@ all_taken d [] = Ok d
 all_taken d (ws ∷ more) = taken d ws >>= λ next. all_taken next more
 
 -- one line, and then the others
-pub taken_first : (d e last : Draft) (ws : List (List ℕ)) (more : List (List (List ℕ))) → taken d ws ≡ Ok e → all_taken e more ≡ Ok last → all_taken d (ws ∷ more) ≡ Ok last
+pub taken_first : (d e last : Draft) (ws : List (List ℕ)) (more : List (List (List ℕ))) → taken d ws ≡ Ok e →
+    all_taken e more ≡ Ok last → all_taken d (ws ∷ more) ≡ Ok last
 taken_first d e last ws more h k = rw h k
 
 -- some lines, and then others
-pub taken_both : (xs ys : List (List (List ℕ))) (d e last : Draft) → all_taken d xs ≡ Ok e → all_taken e ys ≡ Ok last → all_taken d (xs ++ ys) ≡ Ok last
+pub taken_both : (xs ys : List (List (List ℕ))) (d e last : Draft) → all_taken d xs ≡ Ok e → all_taken e ys ≡ Ok last →
+    all_taken d (xs ++ ys) ≡ Ok last
 taken_both [] ys d e last h k = let same : d ≡ e = cc in subst (λ x. all_taken x ys ≡ Ok last) (sym same) k
 taken_both (ws ∷ xs) ys d e last h k = by (taken d ws) h (λ x g. taken_both xs ys x e last g k)
   where
-    by : (r : Result Draft Cause) → (r >>= λ next. all_taken next xs) ≡ Ok e → ((x : Draft) → all_taken x xs ≡ Ok e → all_taken x (xs ++ ys) ≡ Ok last) → (r >>= λ next. all_taken next (xs ++ ys)) ≡ Ok last
+    by : (r : Result Draft Cause) → (r >>= λ next. all_taken next xs) ≡ Ok e →
+        ((x : Draft) → all_taken x xs ≡ Ok e → all_taken x (xs ++ ys) ≡ Ok last) → (r >>= λ next. all_taken next (xs ++ ys))
+        ≡ Ok last
     by (Ok x) h f = f x h
     by (Err cause) h f = cc
 
@@ -44,25 +48,31 @@ taken_meant d ws l m = let is = m.line in let means = m.means in rw is (rw means
 -- only lines are taken
 lines_taken : (ls : List (List (List ℕ))) (d e : Draft) → all_taken d ls ≡ Ok e → list_all is_line ls ≡ true
 lines_taken [] d e h = refl
-lines_taken (ws ∷ ls) d e h = by (is_line ws) (meaning d.format ws >>= λ meant. draft_after_line d meant) h (λ x k. lines_taken ls x e k)
+lines_taken (ws ∷ ls) d e h = by (is_line ws) (meaning d.format ws >>= λ meant. draft_after_line d meant) h
+    (λ x k. lines_taken ls x e k)
   where
-    by : (b : Bool) (r : Result Draft Cause) → ((if b then r else Err Syntax) >>= λ next. all_taken next ls) ≡ Ok e → ((x : Draft) → all_taken x ls ≡ Ok e → list_all is_line ls ≡ true)
+    by : (b : Bool) (r : Result Draft Cause) → ((if b then r else Err Syntax) >>= λ next. all_taken next ls) ≡ Ok e →
+        ((x : Draft) → all_taken x ls ≡ Ok e → list_all is_line ls ≡ true)
         → (b && list_all is_line ls) ≡ true
     by true (Ok x) h go = go x h
     by true (Err cause) h go = cc
     by false r h go = cc
 
 -- lines of words are read as they are taken
-read_words : (n : ℕ) (d e : Draft) (ls : List (List (List ℕ))) (s : Scenario) → list_all is_line ls ≡ true → all_taken d ls ≡ Ok e → finished e ≡ Ok s
+read_words : (n : ℕ) (d e : Draft) (ls : List (List (List ℕ))) (s : Scenario) → list_all is_line ls ≡ true →
+    all_taken d ls ≡ Ok e → finished e ≡ Ok s
     → read_lines n d (map spaced ls) ≡ Ok s
 read_words n d e [] s h t f = let same : d ≡ e = cc in rw same (rw f refl)
 read_words n d e (ws ∷ ls) s h t f =
     let parts = and_parts (is_line ws) (list_all is_line ls) h in
     let step = cond-true (is_line ws) (meaning d.format ws >>= λ meant. draft_after_line d meant) (Err Syntax) parts.0 in
-    let t : ((meaning d.format ws >>= λ meant. draft_after_line d meant) >>= λ next. all_taken next ls) ≡ Ok e = subst (λ r. (r >>= λ next. all_taken next ls) ≡ Ok e) step t in
-    rw (line_of-spaced d.format ws parts.0) (by (meaning d.format ws >>= λ meant. draft_after_line d meant) t (λ x k. read_words (n + 1) x e ls s parts.1 k f))
+    let t : ((meaning d.format ws >>= λ meant. draft_after_line d meant) >>= λ next. all_taken next ls) ≡ Ok e =
+    subst (λ r. (r >>= λ next. all_taken next ls) ≡ Ok e) step t in
+    rw (line_of-spaced d.format ws parts.0) (by (meaning d.format ws >>= λ meant. draft_after_line d meant) t
+    (λ x k. read_words (n + 1) x e ls s parts.1 k f))
   where
-    by : (r : Result Draft Cause) → (r >>= λ next. all_taken next ls) ≡ Ok e → ((x : Draft) → all_taken x ls ≡ Ok e → read_lines (n + 1) x (map spaced ls) ≡ Ok s)
+    by : (r : Result Draft Cause) → (r >>= λ next. all_taken next ls) ≡ Ok e →
+        ((x : Draft) → all_taken x ls ≡ Ok e → read_lines (n + 1) x (map spaced ls) ≡ Ok s)
         → and_then (at_line n r) (λ next. read_lines (n + 1) next (map spaced ls)) ≡ Ok s
     by (Ok x) h go = go x h
     by (Err cause) h go = cc

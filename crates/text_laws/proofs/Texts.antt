@@ -20,12 +20,14 @@ text_of-append : (xs ys : List (List (List ℕ))) → text_of (xs ++ ys) ≡ tex
 text_of-append xs ys = flat_map-append (λ ws. spaced ws ++ 10 ∷ []) xs ys
 
 -- a line for each element
-each_line : {A : Type 0} (f : A → List ℕ) (g : A → List (List ℕ)) → ((x : A) → f x ≡ spaced (g x) ++ 10 ∷ []) → (xs : List A) → flat_map f xs ≡ text_of (map g xs)
+each_line : {A : Type 0} (f : A → List ℕ) (g : A → List (List ℕ)) → ((x : A) → f x ≡ spaced (g x) ++ 10 ∷ []) →
+    (xs : List A) → flat_map f xs ≡ text_of (map g xs)
 each_line f g same [] = refl
 each_line f g same (x ∷ xs) = rw (same x, each_line f g same xs) refl
 
 -- lines for each element
-some_lines : {A : Type 0} (f : A → List ℕ) (g : A → List (List (List ℕ))) → ((x : A) → f x ≡ text_of (g x)) → (xs : List A) → flat_map f xs ≡ text_of (flat_map g xs)
+some_lines : {A : Type 0} (f : A → List ℕ) (g : A → List (List (List ℕ))) → ((x : A) → f x ≡ text_of (g x)) → (xs : List A) →
+    flat_map f xs ≡ text_of (flat_map g xs)
 some_lines f g same [] = refl
 some_lines f g same (x ∷ xs) = rw (same x, some_lines f g same xs) (sym (text_of-append (g x) (flat_map g xs)))
 
@@ -35,7 +37,8 @@ shape_is c = simp append_assoc
 cache_is : (c : Cache) → cache_line_text c ≡ text_of (cache_lines c)
 cache_is c = by c.first c.«data»
   where
-    by : (first is_data : Bool) → (if not first then [] else ((if is_data then codes "data " else codes "cache ") ++ shape_text c ++ 10 ∷ []))
+    by : (first is_data : Bool) →
+        (if not first then [] else ((if is_data then codes "data " else codes "cache ") ++ shape_text c ++ 10 ∷ []))
         ≡ text_of (if not first then [] else (((if is_data then codes "data" else codes "cache") ∷ shape_words c) ∷ []))
     by false is_data = refl
     by true true = rw (append-nil (spaced (codes "data" ∷ shape_words c) ++ 10 ∷ [])) (rw (shape_is c) refl)
@@ -52,23 +55,28 @@ first_is (c ∷ more) =
 head_is : (s : Scenario) → head_text s ≡ text_of (head_lines s)
 head_is s = by (s.format == 2)
   where
-    by : (second : Bool) → (if second then codes "scenario 2\n" ++ flat_map cache_line_text s.caches else codes "scenario 1\n" ++ first_text s.caches)
-        ≡ text_of (if second then ((codes "scenario" ∷ codes "2" ∷ []) ∷ flat_map cache_lines s.caches) else ((codes "scenario" ∷ codes "1" ∷ []) ∷ first_lines s.caches))
+    by : (second : Bool) → (if second then codes "scenario 2\n" ++ flat_map cache_line_text s.caches else codes "scenario 1\n"
+        ++ first_text s.caches)
+        ≡ text_of (if second then ((codes "scenario" ∷ codes "2" ∷ []) ∷ flat_map cache_lines s.caches) else
+        ((codes "scenario" ∷ codes "1" ∷ []) ∷ first_lines s.caches))
     by true = ap (λ more. codes "scenario 2\n" ++ more) (some_lines cache_line_text cache_lines cache_is s.caches)
     by false = ap (λ more. codes "scenario 1\n" ++ more) (first_is s.caches)
 
 planned_is : (s : Scenario) (p : PlanStep) → planned_text s p ≡ spaced (planned_words s p) ++ 10 ∷ []
 planned_is s p = by p.step
   where
-    started : (o : Option Cache) → (codes "plan " ++ decimal p.moment ++ (32 ∷ started_text o) ++ 10 ∷ []) ≡ spaced (codes "plan" ∷ decimal p.moment ∷ started_words o) ++ 10 ∷ []
+    started : (o : Option Cache) → (codes "plan " ++ decimal p.moment ++ (32 ∷ started_text o) ++ 10 ∷ [])
+        ≡ spaced (codes "plan" ∷ decimal p.moment ∷ started_words o) ++ 10 ∷ []
     started None = refl
     started (Some c) = rw (shape_is c) refl
 
-    stopped : (o : Option Cache) → (codes "plan " ++ decimal p.moment ++ (32 ∷ stopped_text o) ++ 10 ∷ []) ≡ spaced (codes "plan" ∷ decimal p.moment ∷ stopped_words o) ++ 10 ∷ []
+    stopped : (o : Option Cache) → (codes "plan " ++ decimal p.moment ++ (32 ∷ stopped_text o) ++ 10 ∷ [])
+        ≡ spaced (codes "plan" ∷ decimal p.moment ∷ stopped_words o) ++ 10 ∷ []
     stopped None = refl
     stopped (Some c) = refl
 
-    by : (x : Step) → (codes "plan " ++ decimal p.moment ++ (32 ∷ step_text s x) ++ 10 ∷ []) ≡ spaced (codes "plan" ∷ decimal p.moment ∷ step_words s x) ++ 10 ∷ []
+    by : (x : Step) → (codes "plan " ++ decimal p.moment ++ (32 ∷ step_text s x) ++ 10 ∷ [])
+        ≡ spaced (codes "plan" ∷ decimal p.moment ∷ step_words s x) ++ 10 ∷ []
     by (step.Join m) = refl
     by (step.Lose n) = refl
     by (step.Hold a b) = refl
@@ -99,7 +107,8 @@ session_is s x =
     let commands = each_line (item_line_text s) (item_words s) (item_is s) x.commands in
     let joined = text_of-append (map (item_words s) x.commands) ((codes "end" ∷ []) ∷ []) in
     let first = codes "session " ++ x.name ++ (32 ∷ decimal x.node.0) ++ 10 ∷ [] in
-    append_assoc first (flat_map (item_line_text s) x.commands) (codes "end\n") ∙ ap (λ more. first ++ more) (ap (λ more. more ++ codes "end\n") commands ∙ sym joined)
+    append_assoc first (flat_map (item_line_text s) x.commands) (codes "end\n")
+    ∙ ap (λ more. first ++ more) (ap (λ more. more ++ codes "end\n") commands ∙ sym joined)
 
 pub text_is : (s : Scenario) → scenario_text s ≡ text_of (all_lines s)
 text_is s =
@@ -107,6 +116,8 @@ text_is s =
     let plan = each_line (planned_text s) (planned_words s) (planned_is s) s.plan in
     let sessions = some_lines (session_text s) (session_lines s) (session_is s) s.sessions in
     let last = text_of-append (map (planned_words s) s.plan) (flat_map (session_lines s) s.sessions) in
-    let more = text_of-append (map member_words s.nodes) (map (planned_words s) s.plan ++ flat_map (session_lines s) s.sessions) in
-    let all = text_of-append (head_lines s) (map member_words s.nodes ++ (map (planned_words s) s.plan ++ flat_map (session_lines s) s.sessions)) in
+    let more = text_of-append (map member_words s.nodes)
+    (map (planned_words s) s.plan ++ flat_map (session_lines s) s.sessions) in
+    let all = text_of-append (head_lines s)
+    (map member_words s.nodes ++ (map (planned_words s) s.plan ++ flat_map (session_lines s) s.sessions)) in
     rw (head_is s, nodes, plan, sessions, all, more, last) (simp append_assoc)

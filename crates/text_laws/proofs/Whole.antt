@@ -67,29 +67,42 @@ record GoodParts (s : Scenario) : Type 0 where
 
 good_parts : (s : Scenario) → good s ≡ true → GoodParts s
 good_parts s h =
-    let a = and_parts (good_format s.format s.caches && good_caches s.caches && good_nodes s && good_plan s) (good_sessions s) h in
+    let a = and_parts (good_format s.format s.caches && good_caches s.caches && good_nodes s && good_plan s)
+    (good_sessions s) h in
     let b = and_parts (good_format s.format s.caches && good_caches s.caches && good_nodes s) (good_plan s) a.0 in
     let c = and_parts (good_format s.format s.caches && good_caches s.caches) (good_nodes s) b.0 in
     let d = and_parts (good_format s.format s.caches) (good_caches s.caches) c.0 in
     let caches = s.caches in
-    let c1 = and_parts (list_all good_cache caches && in_order caches && list_any has_cache_line caches && are_distinct same_cache_name caches && nat_le (length caches) 8) (nat_le (sum_by (λ cache. cache.parts) caches) 1024) d.1 in
-    let c2 = and_parts (list_all good_cache caches && in_order caches && list_any has_cache_line caches && are_distinct same_cache_name caches) (nat_le (length caches) 8) c1.0 in
-    let c3 = and_parts (list_all good_cache caches && in_order caches && list_any has_cache_line caches) (are_distinct same_cache_name caches) c2.0 in
+    let c1 = and_parts (list_all good_cache caches && in_order caches && list_any has_cache_line caches
+    && are_distinct same_cache_name caches && nat_le (length caches) 8)
+    (nat_le (sum_by (λ cache. cache.parts) caches) 1024) d.1 in
+    let c2 = and_parts (list_all good_cache caches && in_order caches && list_any has_cache_line caches
+    && are_distinct same_cache_name caches) (nat_le (length caches) 8) c1.0 in
+    let c3 = and_parts (list_all good_cache caches && in_order caches && list_any has_cache_line caches)
+    (are_distinct same_cache_name caches) c2.0 in
     let c4 = and_parts (list_all good_cache caches && in_order caches) (list_any has_cache_line caches) c3.0 in
     let c5 = and_parts (list_all good_cache caches) (in_order caches) c4.0 in
     let all = members s in
-    let n1 = and_parts (list_all (λ member. is_within 1 99 member.node.0) all && are_distinct same_member_node all && nat_le (length all) 16) (list_any (λ member. member.server) s.nodes) c.1 in
-    let n2 = and_parts (list_all (λ member. is_within 1 99 member.node.0) all && are_distinct same_member_node all) (nat_le (length all) 16) n1.0 in
+    let n1 = and_parts (list_all (λ member. is_within 1 99 member.node.0) all && are_distinct same_member_node all
+    && nat_le (length all) 16) (list_any (λ member. member.server) s.nodes) c.1 in
+    let n2 = and_parts (list_all (λ member. is_within 1 99 member.node.0) all && are_distinct same_member_node all)
+    (nat_le (length all) 16) n1.0 in
     let n3 = and_parts (list_all (λ member. is_within 1 99 member.node.0) all) (are_distinct same_member_node all) n2.0 in
     let plan = s.plan in
-    let p1 = and_parts (nat_le (length plan) 64 && list_all (λ planned. is_within 1 1000000 planned.moment) plan && no_moment_falls plan && good_steps caches all [] plan) (good_starts caches (starts_of plan)) b.1 in
-    let p2 = and_parts (nat_le (length plan) 64 && list_all (λ planned. is_within 1 1000000 planned.moment) plan && no_moment_falls plan) (good_steps caches all [] plan) p1.0 in
-    let p3 = and_parts (nat_le (length plan) 64 && list_all (λ planned. is_within 1 1000000 planned.moment) plan) (no_moment_falls plan) p2.0 in
+    let p1 = and_parts (nat_le (length plan) 64 && list_all (λ planned. is_within 1 1000000 planned.moment) plan
+    && no_moment_falls plan && good_steps caches all [] plan) (good_starts caches (starts_of plan)) b.1 in
+    let p2 = and_parts (nat_le (length plan) 64 && list_all (λ planned. is_within 1 1000000 planned.moment) plan
+    && no_moment_falls plan) (good_steps caches all [] plan) p1.0 in
+    let p3 = and_parts (nat_le (length plan) 64 && list_all (λ planned. is_within 1 1000000 planned.moment) plan)
+    (no_moment_falls plan) p2.0 in
     let p4 = and_parts (nat_le (length plan) 64) (list_all (λ planned. is_within 1 1000000 planned.moment) plan) p3.0 in
-    let p5 = and_parts (count_up (length (filter (λ cache. cache.first) caches)) (starts_of plan)) (length (filter is_started caches) == length (starts_of plan)) p1.1 in
+    let p5 = and_parts (count_up (length (filter (λ cache. cache.first) caches)) (starts_of plan))
+    (length (filter is_started caches) == length (starts_of plan)) p1.1 in
     let xs = s.sessions in
-    let s1 = and_parts (nat_le (length xs) 64 && list_all (good_session caches all) xs && are_distinct same_session_name xs) (good_kinds (filter_map object_of (commands_of xs))) a.1 in
-    let s2 = and_parts (nat_le (length xs) 64 && list_all (good_session caches all) xs) (are_distinct same_session_name xs) s1.0 in
+    let s1 = and_parts (nat_le (length xs) 64 && list_all (good_session caches all) xs && are_distinct same_session_name xs)
+    (good_kinds (filter_map object_of (commands_of xs))) a.1 in
+    let s2 = and_parts (nat_le (length xs) 64 && list_all (good_session caches all) xs) (are_distinct same_session_name xs)
+    s1.0 in
     let s3 = and_parts (nat_le (length xs) 64) (list_all (good_session caches all) xs) s2.0 in
     record {
       format = d.0;
@@ -122,13 +135,16 @@ in_two (c ∷ cs) h =
     let parts = and_parts _ (in_order cs) h in
     by (line_kind c cs parts.0) (in_two cs parts.1)
   where
-    line : c.first ≡ true → cs ≡ filter (λ cache. cache.first) cs ++ filter is_started cs → c ∷ cs ≡ filter (λ cache. cache.first) (c ∷ cs) ++ filter is_started (c ∷ cs)
+    line : c.first ≡ true → cs ≡ filter (λ cache. cache.first) cs ++ filter is_started cs →
+        c ∷ cs ≡ filter (λ cache. cache.first) (c ∷ cs) ++ filter is_started (c ∷ cs)
     line first more =
         let kept = cond-true c.first (c ∷ filter (λ cache. cache.first) cs) (filter (λ cache. cache.first) cs) first in
-        let left = cond-false (is_started c) (c ∷ filter is_started cs) (filter is_started cs) (and_left (not c.first) (not c.«data») (not_from_true c.first first)) in
+        let left = cond-false (is_started c) (c ∷ filter is_started cs) (filter is_started cs)
+        (and_left (not c.first) (not c.«data») (not_from_true c.first first)) in
         ap (λ xs. c ∷ xs) more ∙ sym (λ i. kept i ++ left i)
 
-    by : OfCacheLine c ⊎ (OfDataLine c cs ⊎ (list_all is_started (c ∷ cs) ≡ true)) → cs ≡ filter (λ cache. cache.first) cs ++ filter is_started cs
+    by : OfCacheLine c ⊎ (OfDataLine c cs ⊎ (list_all is_started (c ∷ cs) ≡ true)) →
+        cs ≡ filter (λ cache. cache.first) cs ++ filter is_started cs
         → c ∷ cs ≡ filter (λ cache. cache.first) (c ∷ cs) ++ filter is_started (c ∷ cs)
     by (inl h) more = line h.first more
     by (inr (inl h)) more = line h.first more
@@ -138,7 +154,8 @@ all_started : (cs : List Cache) → list_all is_started (filter is_started cs) �
 all_started [] = refl
 all_started (c ∷ cs) = by (is_started c) refl (all_started cs)
   where
-    by : (b : Bool) → is_started c ≡ b → list_all is_started (filter is_started cs) ≡ true → list_all is_started (cond b (c ∷ filter is_started cs) (filter is_started cs)) ≡ true
+    by : (b : Bool) → is_started c ≡ b → list_all is_started (filter is_started cs) ≡ true →
+        list_all is_started (cond b (c ∷ filter is_started cs) (filter is_started cs)) ≡ true
     by true e h = and_from (is_started c) (list_all is_started (filter is_started cs)) e h
     by false e h = h
 
@@ -153,20 +170,26 @@ head s called g = by (formats s.format s.caches g.format)
 
 -- the nodes that are named
 
-named : (s : Scenario) → GoodParts s → (n : NodeId) → has_member (members s) n ≡ true → is_named (named_in (map spaced (all_lines s))) n ≡ true
+named : (s : Scenario) → GoodParts s → (n : NodeId) → has_member (members s) n ≡ true →
+    is_named (named_in (map spaced (all_lines s))) n ≡ true
 named s g n h =
     let nodes = map member_words s.nodes in
     let plan = map (planned_words s) s.plan in
     let sessions = flat_map (session_lines s) s.sessions in
-    let within = and_parts (list_all (λ member. is_within 1 99 member.node.0) s.nodes) (list_all (λ member. is_within 1 99 member.node.0) (joins_of s.plan))
+    let within = and_parts (list_all (λ member. is_within 1 99 member.node.0) s.nodes)
+    (list_all (λ member. is_within 1 99 member.node.0) (joins_of s.plan))
     (sym (list_all-append (λ member. is_within 1 99 member.node.0) s.nodes (joins_of s.plan)) ∙ g.within) in
     let split = sym (list_any-append (λ member. member.node.0 == n.0) s.nodes (joins_of s.plan)) ∙ h in
-    names-append (head_lines s) (nodes ++ (plan ++ sessions)) n ∙ or_right (names (head_lines s) n) (names (nodes ++ (plan ++ sessions)) n)
-    (names-append nodes (plan ++ sessions) n ∙ by (or_cases (has_member s.nodes n) (has_member (joins_of s.plan) n) split) within.0 within.1)
+    names-append (head_lines s) (nodes ++ (plan ++ sessions)) n
+    ∙ or_right (names (head_lines s) n) (names (nodes ++ (plan ++ sessions)) n)
+    (names-append nodes (plan ++ sessions) n ∙ by (or_cases (has_member s.nodes n) (has_member (joins_of s.plan) n) split)
+    within.0 within.1)
   where
-    by : (has_member s.nodes n ≡ true) ⊎ (has_member (joins_of s.plan) n ≡ true) → list_all (λ member. is_within 1 99 member.node.0) s.nodes ≡ true
+    by : (has_member s.nodes n ≡ true) ⊎ (has_member (joins_of s.plan) n ≡ true) →
+        list_all (λ member. is_within 1 99 member.node.0) s.nodes ≡ true
         → list_all (λ member. is_within 1 99 member.node.0) (joins_of s.plan) ≡ true
-        → (names (map member_words s.nodes) n || names (map (planned_words s) s.plan ++ flat_map (session_lines s) s.sessions) n) ≡ true
+        → (names (map member_words s.nodes) n || names (map (planned_words s) s.plan ++ flat_map (session_lines s) s.sessions)
+        n) ≡ true
     by (inl e) v w = or_left (names (map member_words s.nodes) n) _ (nodes_named s.nodes n v e)
     by (inr e) v w = or_right (names (map member_words s.nodes) n) _
         (names-append (map (planned_words s) s.plan) (flat_map (session_lines s) s.sessions) n
@@ -191,10 +214,13 @@ some_line : (cs : List Cache) → list_any has_cache_line cs ≡ true → 1 ≤ 
 some_line [] h = absurd (cc)
 some_line (c ∷ cs) h = by c.first c.«data» refl (some_line cs) h
   where
-    by : (f d : Bool) → c.first ≡ f → (list_any has_cache_line cs ≡ true → 1 ≤ length (filter (λ cache. cache.first) cs)) → ((f && not d) || list_any has_cache_line cs) ≡ true
+    by : (f d : Bool) → c.first ≡ f → (list_any has_cache_line cs ≡ true → 1 ≤ length (filter (λ cache. cache.first) cs)) →
+        ((f && not d) || list_any has_cache_line cs) ≡ true
         → 1 ≤ length (filter (λ cache. cache.first) (c ∷ cs))
-    by true d e go h = subst (λ xs. 1 ≤ length xs) (sym (cond-true c.first (c ∷ filter (λ cache. cache.first) cs) (filter (λ cache. cache.first) cs) e)) (omega arith)
-    by false d e go h = subst (λ xs. 1 ≤ length xs) (sym (cond-false c.first (c ∷ filter (λ cache. cache.first) cs) (filter (λ cache. cache.first) cs) e)) (go h)
+    by true d e go h = subst (λ xs. 1 ≤ length xs)
+        (sym (cond-true c.first (c ∷ filter (λ cache. cache.first) cs) (filter (λ cache. cache.first) cs) e)) (omega arith)
+    by false d e go h = subst (λ xs. 1 ≤ length xs)
+        (sym (cond-false c.first (c ∷ filter (λ cache. cache.first) cs) (filter (λ cache. cache.first) cs) e)) (go h)
 
 one_cache : (cs : List Cache) → is_default cs ≡ true → length cs ≡ 1
 one_cache [] h = absurd (cc)
@@ -203,7 +229,8 @@ one_cache (c ∷ d ∷ more) h = absurd (cc)
 
 plan_fits : (s : Scenario) (d : Draft) → GoodParts s → Before s d → PlanFits s d (filter is_started s.caches) s.plan
 plan_fits s d g b =
-    let within = and_parts (list_all (λ member. is_within 1 99 member.node.0) s.nodes) (list_all (λ member. is_within 1 99 member.node.0) (joins_of s.plan))
+    let within = and_parts (list_all (λ member. is_within 1 99 member.node.0) s.nodes)
+    (list_all (λ member. is_within 1 99 member.node.0) (joins_of s.plan))
     (sym (list_all-append (λ member. is_within 1 99 member.node.0) s.nodes (joins_of s.plan)) ∙ g.within) in
     record {
       format = by (formats s.format s.caches g.format);
@@ -221,10 +248,12 @@ plan_fits s d g b =
       few = subst (λ ms. length (ms ++ joins_of s.plan) ≤ 16) (sym b.members) g.few_nodes;
       joined = within.1;
       steps = subst (λ came. good_steps s.caches (members s) (steps_of came) s.plan ≡ true) (sym b.plan) g.steps;
-      begun = λ n h. absurd (let none : list_any (starts_cache n) (steps_of []) ≡ true = subst (λ came. list_any (starts_cache n) (steps_of came) ≡ true) b.plan h in cc);
+      begun = λ n h. absurd (let none : list_any (starts_cache n) (steps_of []) ≡ true =
+          subst (λ came. list_any (starts_cache n) (steps_of came) ≡ true) b.plan h in cc);
     }
   where
-    by : ((s.format ≡ 1) × (is_default s.caches ≡ true)) ⊎ (s.format ≡ 2) → (d.format ≡ 2) ⊎ ((length s.caches ≡ 1) × (1 ≤ length d.caches))
+    by : ((s.format ≡ 1) × (is_default s.caches ≡ true)) ⊎ (s.format ≡ 2) → (d.format ≡ 2)
+        ⊎ ((length s.caches ≡ 1) × (1 ≤ length d.caches))
     by (inl h) = inr (one_cache s.caches h.1, subst (λ cs. 1 ≤ length cs) (sym b.caches) (some_line s.caches g.line))
     by (inr two) = inl (b.format ∙ two)
 
@@ -241,33 +270,45 @@ none_known [] = refl
 none_known (x ∷ xs) = none_known xs
 
 -- what is read is the scenario
-last : (s : Scenario) (e : Draft) → GoodParts s → e.format ≡ s.format → may_follow e.place place.Sessions ≡ true → e.caches ≡ s.caches → e.nodes ≡ s.nodes → e.plan ≡ s.plan → e.sessions ≡ s.sessions → finished e ≡ Ok s
+last : (s : Scenario) (e : Draft) → GoodParts s → e.format ≡ s.format → may_follow e.place place.Sessions ≡ true →
+    e.caches ≡ s.caches → e.nodes ≡ s.nodes → e.plan ≡ s.plan → e.sessions ≡ s.sessions → finished e ≡ Ok s
 last s e g format st caches nodes plan sessions =
     let there = whole_place e.place st in
     let server : has_server e.nodes ≡ true = subst (λ ms. has_server ms ≡ true) (sym nodes) g.server in
     let line : has_line e.caches ≡ true = subst (λ cs. has_line cs ≡ true) (sym caches) g.line in
-    rw (there, server, line) (λ i. Ok (record { format = format i; caches = caches i; nodes = nodes i; plan = plan i; sessions = sessions i }))
+    rw (there, server, line)
+    (λ i. Ok (record { format = format i; caches = caches i; nodes = nodes i; plan = plan i; sessions = sessions i }))
 
 pub reads_back : ReadsBack
 reads_back s h longs few =
     let g = good_parts s h in
     let called = named_in (map spaced (all_lines s)) in
-    let known : Known s called = record { each = g.each; distinct = g.distinct; few = g.few; within = g.within; named = named s g } in
+    let known : Known s called = record {
+      each = g.each;
+      distinct = g.distinct;
+      few = g.few;
+      within = g.within;
+      named =
+          named s g;
+    } in
     let whole : Whole s = record { format = g.format; each = g.each; distinct = g.distinct } in
     let heads = head s called g in
     let none = heads.members in
     let all_members : heads.next.members ++ s.nodes ≡ s.nodes = ap (λ ms. ms ++ s.nodes) none in
-    let fits = and_parts (list_all (λ member. is_within 1 99 member.node.0) s.nodes) (list_all (λ member. is_within 1 99 member.node.0) (joins_of s.plan))
+    let fits = and_parts (list_all (λ member. is_within 1 99 member.node.0) s.nodes)
+    (list_all (λ member. is_within 1 99 member.node.0) (joins_of s.plan))
     (sym (list_all-append (λ member. is_within 1 99 member.node.0) s.nodes (joins_of s.plan)) ∙ g.within) in
     let nodes = nodes_taken s.nodes heads.next heads.stands fits.0
-    (subst (λ ms. are_distinct same_member_node ms ≡ true) (sym all_members) (distinct_front same_member_node s.nodes (joins_of s.plan) g.apart))
+    (subst (λ ms. are_distinct same_member_node ms ≡ true) (sym all_members)
+    (distinct_front same_member_node s.nodes (joins_of s.plan) g.apart))
     (subst (λ ms. length ms ≤ 16) (sym all_members) (omega (arith, g.few_nodes, length-append s.nodes (joins_of s.plan)))) in
     let known_nodes : Known s nodes.next.named = subst (λ xs. Known s xs) (sym (nodes.named ∙ heads.named)) known in
     let plan = plan_taken s s.plan nodes.next (filter is_started s.caches) known_nodes (plan_fits s nodes.next g (record {
       format = nodes.format ∙ heads.format;
       stands = nodes.stands;
       caches = nodes.caches ∙ heads.caches;
-      sum = subst (λ n. n + sum_by (λ (cache : Cache). cache.parts) (filter is_started s.caches) ≤ 1024) (sym nodes.partitions) heads.sum;
+      sum = subst (λ n. n + sum_by (λ (cache : Cache). cache.parts) (filter is_started s.caches) ≤ 1024)
+          (sym nodes.partitions) heads.sum;
       members = nodes.members ∙ all_members;
       plan = nodes.plan ∙ heads.plan;
     })) in
@@ -282,14 +323,22 @@ reads_back s h longs few =
       distinct = subst (λ xs. are_distinct same_session_name (xs ++ s.sessions) ≡ true) (sym no_sessions) g.called;
       good = g.sessions;
       long = longs;
-      agree = subst (λ xs. list_all (agrees_with xs) (filter_map object_of (commands_of s.sessions)) ≡ true) (sym no_objects) (none_known (filter_map object_of (commands_of s.sessions)));
+      agree = subst (λ xs. list_all (agrees_with xs) (filter_map object_of (commands_of s.sessions)) ≡ true) (sym no_objects)
+          (none_known (filter_map object_of (commands_of s.sessions)));
       kinds = g.kinds;
     }) in
-    let after_nodes = taken_both (map (planned_words s) s.plan) (flat_map (session_lines s) s.sessions) nodes.next plan.next sessions.next plan.took sessions.took in
-    let after_head = taken_both (map member_words s.nodes) (map (planned_words s) s.plan ++ flat_map (session_lines s) s.sessions) heads.next nodes.next sessions.next nodes.took after_nodes in
-    let took = taken_both (head_lines s) (map member_words s.nodes ++ (map (planned_words s) s.plan ++ flat_map (session_lines s) s.sessions)) (empty called) heads.next sessions.next heads.took after_head in
-    let done = last s sessions.next g (sessions.format ∙ (plan.format ∙ (nodes.format ∙ heads.format))) sessions.stands (sessions.caches ∙ plan.caches)
+    let after_nodes = taken_both (map (planned_words s) s.plan) (flat_map (session_lines s) s.sessions) nodes.next plan.next
+    sessions.next plan.took sessions.took in
+    let after_head = taken_both (map member_words s.nodes)
+    (map (planned_words s) s.plan ++ flat_map (session_lines s) s.sessions) heads.next nodes.next sessions.next nodes.took
+    after_nodes in
+    let took = taken_both (head_lines s)
+    (map member_words s.nodes ++ (map (planned_words s) s.plan ++ flat_map (session_lines s) s.sessions))
+    (empty called) heads.next sessions.next heads.took after_head in
+    let done = last s sessions.next g (sessions.format ∙ (plan.format ∙ (nodes.format ∙ heads.format))) sessions.stands
+    (sessions.caches ∙ plan.caches)
     (sessions.nodes ∙ (plan.nodes ∙ (nodes.nodes ∙ ap (λ ms. ms ++ s.nodes) heads.nodes)))
     (sessions.plan ∙ (plan.plan ∙ ap (λ came. came ++ s.plan) (nodes.plan ∙ heads.plan)))
     (sessions.sessions ∙ ap (λ xs. xs ++ s.sessions) no_sessions) in
-    ap scenario_of (text_is s) ∙ read_whole (all_lines s) sessions.next s (subst (λ bs. length bs ≤ 1048576) (text_is s) few) took done
+    ap scenario_of (text_is s) ∙ read_whole (all_lines s) sessions.next s (subst (λ bs. length bs ≤ 1048576) (text_is s) few)
+    took done

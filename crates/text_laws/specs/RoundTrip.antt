@@ -27,4 +27,5 @@ has_longs s = list_all (λ session. list_all has_long session.commands) s.sessio
 -- the canonical text of a good scenario, if a text may be so long, is read as that scenario
 abbrev pub ReadsBack : Type 0
 ReadsBack =
-    (s : Scenario) → IsTrue (good s) → IsTrue (has_longs s) → length (scenario_text s) ≤ 1048576 → scenario_of (scenario_text s) ≡ Ok s
+    (s : Scenario) → IsTrue (good s) → IsTrue (has_longs s) → length (scenario_text s) ≤ 1048576 →
+    scenario_of (scenario_text s) ≡ Ok s

@@ -23,7 +23,8 @@ pub fn printed_is_read_back()
 /// Prints a good scenario and reads the text: that scenario, or none where the text is longer than a text may be.
 pub fn read_printed(alloc: Global, scenario: &Scenario) -> Mem<Option<Scenario>>
     requires { IsTrue (good scenario.now) }
-    ensures { IfOk result (λ read. MatchOption read (TEXT_BYTES < length (scenario_text scenario.now)) (λ again. again ≡ scenario.now)) }
+    ensures { IfOk result (λ read. MatchOption read (TEXT_BYTES < length (scenario_text scenario.now))
+        (λ again. again ≡ scenario.now)) }
 {
     integers_are_long(scenario);
     let text = print_scenario(alloc, scenario)?;

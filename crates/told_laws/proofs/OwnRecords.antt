@@ -40,28 +40,35 @@ abbrev R : NodeState → NodeState → Type 0
 R = OnlyAppends
 
 finished_row : (s : NodeState) (from : NodeId) (tx : TxId) → R s (after_finished s from tx)
-finished_row s from tx = andthen s (after_finished_at_starter s from tx) (after_finished s from tx) (near_finished_kept R extending_plain s from tx) (recovery_finished_kept R extending_plain (after_finished_at_starter s from tx) from tx)
+finished_row s from tx = andthen s (after_finished_at_starter s from tx) (after_finished s from tx)
+    (near_finished_kept R extending_plain s from tx)
+    (recovery_finished_kept R extending_plain (after_finished_at_starter s from tx) from tx)
 
-backup_finished_row : (s : NodeState) (from : NodeId) (tx : TxId) (primary : NodeId) → R s (after_backup_finished s from tx primary)
+backup_finished_row : (s : NodeState) (from : NodeId) (tx : TxId) (primary : NodeId) →
+    R s (after_backup_finished s from tx primary)
 backup_finished_row s from tx primary =
     let own = after_backup_finished_at_primary s from tx primary in
     let near = after_backup_finished_at_starter own from tx primary in
     andthen s own (after_backup_finished s from tx primary) (own_backup_finished_kept R extending_plain s from tx primary)
-    (andthen own near (after_backup_finished s from tx primary) (near_backup_finished_kept R extending_plain own from tx primary) (recovery_backup_finished_kept R extending_plain near from tx primary))
+    (andthen own near (after_backup_finished s from tx primary)
+    (near_backup_finished_kept R extending_plain own from tx primary)
+    (recovery_backup_finished_kept R extending_plain near from tx primary))
 
 message_row : (s : NodeState) (from : NodeId) (m : Message) → R s (after_message s from m)
 message_row s from (msg.Lock tx top key) = lock_row_kept R extending_plain s from tx top key
 message_row s from (msg.LockOk tx key found) = lock_ok_row_kept R extending_plain s tx key found
 message_row s from (msg.Get tx key near) = get_row_kept R extending_plain s from tx key near
 message_row s from (msg.GetOk tx key found) = get_ok_row_kept R extending_plain s tx key found
-message_row s from (msg.Prepare tx top mode shares wanted writes) = prepare_row_kept R extending_plain s from tx top mode shares wanted writes
+message_row s from (msg.Prepare tx top mode shares wanted writes) =
+    prepare_row_kept R extending_plain s from tx top mode shares wanted writes
 message_row s from (msg.Prepared tx) = prepared_row_kept R extending_plain s from tx
 message_row s from (msg.PrepareFail tx why) = prepare_fail_row_kept R extending_plain s tx why
 message_row s from (msg.Finish tx commit) = finish_row_kept R extending_plain s from tx commit
 message_row s from (msg.Finished tx) = finished_row s from tx
 message_row s from (msg.Edges tx round asked) = edges_row_kept R extending_plain s from tx round asked
 message_row s from (msg.EdgesOk tx round act waits) = edges_ok_row_kept R extending_plain s from tx round act waits
-message_row s from (msg.BackupPrepare tx top shares primary writes) = backup_prepare_row_kept R extending_plain s from tx top shares primary writes
+message_row s from (msg.BackupPrepare tx top shares primary writes) =
+    backup_prepare_row_kept R extending_plain s from tx top shares primary writes
 message_row s from (msg.BackupPrepared tx) = backup_prepared_row_kept R extending_plain s from tx
 message_row s from (msg.BackupFinish tx primary commit) = backup_finish_row_kept R extending_plain s from tx primary commit
 message_row s from (msg.BackupFinished tx primary) = backup_finished_row s from tx primary
@@ -83,7 +90,8 @@ effects_row s place (topo.Left gone) =
     let round = after_begin_round primary place in
     andthen s near (after_event_effects s place (topo.Left gone)) (near_side_left_kept R extending_plain s gone)
     (andthen near primary (after_event_effects s place (topo.Left gone)) (primary_left_kept R extending_plain near gone)
-    (andthen primary round (after_event_effects s place (topo.Left gone)) (begins_round_kept R extending_plain primary place) (search_left_kept R extending_plain round gone)))
+    (andthen primary round (after_event_effects s place (topo.Left gone)) (begins_round_kept R extending_plain primary place)
+    (search_left_kept R extending_plain round gone)))
 effects_row s place (topo.Join member) = extending_plain.nothing s
 effects_row s place topo.Minor = extending_plain.nothing s
 effects_row s place (topo.Start cache) = extending_plain.nothing s
@@ -106,7 +114,8 @@ abbrev pub NotesNone : NodeState → NodeState → Type 0
 NotesNone a b = list_all is_no_message a.noted ≡ true → list_all is_no_message b.noted ≡ true
 
 none_of : (a b : NodeState) → OnlyAppends a b → NotesNone a b
-none_of a b o none = subst (λ (rs : List Rec). list_all is_no_message rs ≡ true) (sym o.noted_is) (all_of_both is_no_message a.noted o.more_noted none (own_record o.more_noted o.own))
+none_of a b o none = subst (λ (rs : List Rec). list_all is_no_message rs ≡ true) (sym o.noted_is)
+    (all_of_both is_no_message a.noted o.more_noted none (own_record o.more_noted o.own))
 
 pub closed_notes : (s : NodeState) → NotesNone s (after_closing_rules s)
 closed_notes s = none_of s (after_closing_rules s) (closed_kept R extending s)

@@ -24,7 +24,8 @@ at_starter (Some n) (note.Deliver from (msg.GetOk tx key found)) right = right
 at_starter (Some n) (note.Deliver from _) right = refl
 at_starter who _ right = refl
 
-all_at_starters : (recs : List Noted) → list_all is_recorded_right recs ≡ true → list_all (λ (n : Noted). is_at_starter n.node (found_for n.rec)) recs ≡ true
+all_at_starters : (recs : List Noted) → list_all is_recorded_right recs ≡ true →
+    list_all (λ (n : Noted). is_at_starter n.node (found_for n.rec)) recs ≡ true
 all_at_starters [] all = refl
 all_at_starters (n ∷ ns) all =
     let both = first_rest (is_recorded_right n) (list_all is_recorded_right ns) all in
@@ -32,7 +33,8 @@ all_at_starters (n ∷ ns) all =
 
 module _ (events : ℕ) (short : is_short_run events ≡ true) (j : Journal) (run : IsRunOf events j) where
   pub starters_ask_holds : starters_ask j ≡ true
-  starters_ask_holds = (counted_holds FindInvariant finds_lead (λ s is. finds_open s) j run.is_good (few events short j run) run.is_legal).finds.told
+  starters_ask_holds = (counted_holds FindInvariant finds_lead (λ s is. finds_open s) j run.is_good (few events short j run)
+      run.is_legal).finds.told
 
   pub finds_reach_holds : finds_reach_starters j ≡ true
   finds_reach_holds = all_at_starters (noted j.scenario j.groups) starters_ask_holds

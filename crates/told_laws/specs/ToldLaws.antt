@@ -19,7 +19,8 @@ is_right_record who r = true
 abbrev pub is_recorded_right : Noted → Bool
 is_recorded_right n = is_right_record n.node n.rec
 
--- wherever one is sent or taken: a Lock, a Get or a Prepare comes from its transaction's starter; a LockOk, a GetOk, a Prepared or a
+-- wherever one is sent or taken: a Lock, a Get or a Prepare comes from its transaction's starter; a LockOk, a GetOk, a
+-- Prepared or a
 -- PrepareFail goes to it
 abbrev pub starters_ask : Journal → Bool
 starters_ask j = list_all is_recorded_right (noted j.scenario j.groups)

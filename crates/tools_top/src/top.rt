@@ -29,7 +29,14 @@ fn usage(alloc: Global) -> ToolText
 
 /// What a call comes to with these words and this source.
 fn say<S: Source>(alloc: Global, words: &[String], source: &mut S) -> ToolText
-    ensures { ToolSays (tool_line (map string_bytes words.now)) (record { before = S.left source.old; after = S.left source.new; faults_before = S.faults source.old; faults_after = S.faults source.new }) result.status result.text.items }
+    ensures { ToolSays (tool_line (map string_bytes words.now))
+        (record {
+          before = S.left source.old;
+          after = S.left source.new;
+          faults_before = S.faults source.old;
+          faults_after =
+              S.faults source.new;
+        }) result.status result.text.items }
 {
     match tool_of(words) {
         Some(Tool::Audit) => audit_text(alloc, source),

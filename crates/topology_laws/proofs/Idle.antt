@@ -21,7 +21,8 @@ use Rattle.ignite_types.specs.declared.message.Message.TheVariants as msg
 use Rattle.node_state.specs.declared.life.Life.TheVariants as life
 
 -- a version has one oldest member
-pub one_oldest : (sc : TopologyScene) (v : TopVer) (a n : NodeId) → TopologyInvariant sc → IsOldestMember sc v a → IsOldestMember sc v n → a ≡ n
+pub one_oldest : (sc : TopologyScene) (v : TopVer) (a n : NodeId) → TopologyInvariant sc → IsOldestMember sc v a →
+    IsOldestMember sc v n → a ≡ n
 one_oldest sc v a n i x y =
     let place = one_place sc.scenario sc.events x.place y.place i.few x.within y.within (x.is_top ∙ sym y.is_top) in
     some_is a n (sym x.oldest ∙ ap (λ (k : ℕ). oldest_member (topology_at sc k).members) place ∙ y.oldest)
@@ -32,18 +33,22 @@ module _ (sc : TopologyScene) (v : TopVer) (a : NodeId) (never : IsOldestMember 
       (elim (same_top top v) as (λ b. same_top top v ≡ b → b ≡ false) [
         | true ↦ λ e.
             let same = same_top_true top v e in
-            absurd (never (subst (λ (u : TopVer). IsOldestMember sc u a) same t.1) (subst (λ (u : TopVer). HasSomeMap sc u) same t.2))
+            absurd (never (subst (λ (u : TopVer). IsOldestMember sc u a) same t.1)
+            (subst (λ (u : TopVer). HasSomeMap sc u) same t.2))
         | false ↦ λ f. refl
       ]) refl
   none_opens to _ t = refl
 
   pub none_in : (to : NodeId) (ms : List Message) → HoldsOfEach (MessageTells sc a to) ms → opens_on_link v ms ≡ 0
-  none_in to ms all = count_none (is_opens_of v) ms (each_change (MessageTells sc a to) (λ (m : Message). is_opens_of v m ≡ false) ms (λ m t. none_opens to m t) all)
+  none_in to ms all = count_none (is_opens_of v) ms
+      (each_change (MessageTells sc a to) (λ (m : Message). is_opens_of v m ≡ false) ms (λ m t. none_opens to m t) all)
 
-  pub none_out : (to : NodeId) (outs : List Out) → HoldsOfEach (λ (o : Out). MessageTells sc a o.to o.msg) outs → opens_in_outbox v to outs ≡ 0
+  pub none_out : (to : NodeId) (outs : List Out) → HoldsOfEach (λ (o : Out). MessageTells sc a o.to o.msg) outs →
+      opens_in_outbox v to outs ≡ 0
   none_out to outs all =
       count_none (λ (o : Out). same_node o.to to && is_opens_of v o.msg) outs
-      (each_change (λ (o : Out). MessageTells sc a o.to o.msg) (λ (o : Out). (same_node o.to to && is_opens_of v o.msg) ≡ false) outs
+      (each_change (λ (o : Out). MessageTells sc a o.to o.msg) (λ (o : Out). (same_node o.to to && is_opens_of v o.msg)
+      ≡ false) outs
       (λ o t. and_none (same_node o.to to) (is_opens_of v o.msg) (none_opens o.to o.msg t)) all)
     where
       and_none : (x y : Bool) → y ≡ false → (x && y) ≡ false
@@ -59,7 +64,8 @@ module _ (sc : TopologyScene) (v : TopVer) (a : NodeId) (never : IsOldestMember 
       (elim (same_top x.top v) as (λ b. same_top x.top v ≡ b → in_if b ≡ 0) [
         | true ↦ λ e.
             let same = same_top_true x.top v e in
-            absurd (never (subst (λ (u : TopVer). IsOldestMember sc u a) same fits.0) (subst (λ (u : TopVer). HasSomeMap sc u) same fits.1))
+            absurd (never (subst (λ (u : TopVer). IsOldestMember sc u a) same fits.0)
+            (subst (λ (u : TopVer). HasSomeMap sc u) same fits.1))
         | false ↦ λ f. refl
       ]) refl
 
@@ -82,7 +88,8 @@ module _ (sc : TopologyScene) (v : TopVer) (a : NodeId) (never : IsOldestMember 
       omega (arith, links, held)
 
 -- none but the oldest member opens a version
-pub idle_other : (sc : TopologyScene) (v : TopVer) (n a to : NodeId) → TopologyInvariant sc → IsOldestMember sc v n → same_node n a ≡ false → openings_to_come sc v a to ≡ 0
+pub idle_other : (sc : TopologyScene) (v : TopVer) (n a to : NodeId) → TopologyInvariant sc → IsOldestMember sc v n →
+    same_node n a ≡ false → openings_to_come sc v a to ≡ 0
 idle_other sc v n a to i oldest other =
     idle sc v a
     (λ x one.

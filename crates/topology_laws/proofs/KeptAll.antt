@@ -49,36 +49,54 @@ Topologies sc = TopologyInvariant (topology_scene sc)
 few_after : (es : List TopoEvent) (e : TopoEvent) → suc (length es) < 2 ^ 63 → length (es ++ e ∷ []) < 2 ^ 63
 few_after es e room = let sum = length-append es (e ∷ []) in omega (arith, sum, room)
 
-starting : (sc : scenes.Scene) (e : TopoEvent) → IsSound sc → is_cache_switch e ≡ true → Topologies sc → Topologies (scene_after_step sc (with_event sc.directory e) None)
+starting : (sc : scenes.Scene) (e : TopoEvent) → IsSound sc → is_cache_switch e ≡ true → Topologies sc →
+    Topologies (scene_after_step sc (with_event sc.directory e) None)
 starting sc (topo.Start cache) sound is i =
-    appended_inv (topology_scene sc) (topo.Start cache) (plan_records sc None) (few_after sc.directory.events (topo.Start cache) sound.room) (λ ms. refl) (λ n. refl) refl (λ x. refl) (tt, tt) (λ t v. none_opened v t None (note.Planned sc.directory.done None ∷ []) refl) i
+    appended_inv (topology_scene sc) (topo.Start cache) (plan_records sc None)
+    (few_after sc.directory.events (topo.Start cache) sound.room) (λ ms. refl) (λ n. refl) refl (λ x. refl) (tt, tt)
+    (λ t v. none_opened v t None (note.Planned sc.directory.done None ∷ []) refl) i
 starting sc (topo.Stop cache) sound is i =
-    appended_inv (topology_scene sc) (topo.Stop cache) (plan_records sc None) (few_after sc.directory.events (topo.Stop cache) sound.room) (λ ms. refl) (λ n. refl) refl (λ x. refl) (tt, tt) (λ t v. none_opened v t None (note.Planned sc.directory.done None ∷ []) refl) i
+    appended_inv (topology_scene sc) (topo.Stop cache) (plan_records sc None)
+    (few_after sc.directory.events (topo.Stop cache) sound.room) (λ ms. refl) (λ n. refl) refl (λ x. refl) (tt, tt)
+    (λ t v. none_opened v t None (note.Planned sc.directory.done None ∷ []) refl) i
 starting sc topo.Minor sound is i = absurd (cc (is))
 starting sc (topo.Join m) sound is i = absurd (cc (is))
 starting sc (topo.Left n) sound is i = absurd (cc (is))
 
-calm : (sc : scenes.Scene) (who : Option NodeId) (r : Rec) → maps_in (one_record who r) ≡ [] → ((x : NodeId) → is_lost (one_record who r) x ≡ false) → RecordsFitFrom (topology_scene sc) sc.recs (one_record who r) → list_all says_no_topology (r ∷ []) ≡ true
+calm : (sc : scenes.Scene) (who : Option NodeId) (r : Rec) → maps_in (one_record who r) ≡ [] →
+    ((x : NodeId) → is_lost (one_record who r) x ≡ false) → RecordsFitFrom (topology_scene sc) sc.recs (one_record who r) →
+    list_all says_no_topology (r ∷ []) ≡ true
     → Topologies sc → TopologyInvariant (record (topology_scene sc) { recs = sc.recs ++ one_record who r })
-calm sc who r no_map no_loss fits quiet i = calm_inv (topology_scene sc) sc.link (one_record who r) no_map no_loss fits (λ to v. none_opened v to who (r ∷ []) quiet) (λ v a b. no_more_in (is_opens_of v) (sc.link a b)) i.links i
+calm sc who r no_map no_loss fits quiet i = calm_inv (topology_scene sc) sc.link (one_record who r) no_map no_loss fits
+    (λ to v. none_opened v to who (r ∷ []) quiet) (λ v a b. no_more_in (is_opens_of v) (sc.link a b)) i.links i
 
 -- a moment changes no face
-moment_face : (sc : scenes.Scene) (to : ℕ) → TopologyInvariant (record (topology_scene sc) { recs = sc.recs ++ one_record None (note.Tick to) }) → Topologies (scenes.scene_after_tick sc to)
+moment_face : (sc : scenes.Scene) (to : ℕ) →
+    TopologyInvariant (record (topology_scene sc) { recs = sc.recs ++ one_record None (note.Tick to) }) →
+    Topologies (scenes.scene_after_tick sc to)
 moment_face sc to i = i
 
 pub topologies_kept : EachEventKeeps Topologies
 topologies_kept = record {
-  answers = λ sc n s session sound r may i. acts (scenes.scene_with_directory sc (with_answer_given sc.directory)) n (after_answer s session) r.alive (answer_good (topology_scene sc) n s (started sc n s r i) session);
-  calls = λ sc n s session sound r may i. acts sc n (after_closing_rules (after_call s session)) r.alive (call_good (topology_scene sc) n s (started sc n s r i) session);
+  answers = λ sc n s session sound r may i. acts (scenes.scene_with_directory sc (with_answer_given sc.directory)) n
+      (after_answer s session) r.alive (answer_good (topology_scene sc) n s (started sc n s r i) session);
+  calls = λ sc n s session sound r may i. acts sc n (after_closing_rules (after_call s session)) r.alive
+      (call_good (topology_scene sc) n s (started sc n s r i) session);
   takes = λ sc n s from m sound r first i. takes_kept sc n s from m sound r first i;
-  expires = λ sc n s tx sound r own may i. acts sc n (after_closing_rules (after_expire s tx)) r.alive (expire_good (topology_scene sc) n s (started sc n s r i) tx);
-  sees = λ sc n s e sound r there i. acts sc n (after_closing_rules (after_see s s.read e)) r.alive (see_good (topology_scene sc) n s e there (started sc n s r i));
+  expires = λ sc n s tx sound r own may i. acts sc n (after_closing_rules (after_expire s tx)) r.alive
+      (expire_good (topology_scene sc) n s (started sc n s r i) tx);
+  sees = λ sc n s e sound r there i. acts sc n (after_closing_rules (after_see s s.read e)) r.alive
+      (see_good (topology_scene sc) n s e there (started sc n s r i));
   switches = λ sc n s sound r may same i.
-      subst (λ (rs : List Noted). TopologyInvariant (record (topology_scene sc) { events = sc.directory.events ++ topo.Minor ∷ []; recs = rs })) (append_none sc.recs)
-      (appended_inv (topology_scene sc) topo.Minor [] (few_after sc.directory.events topo.Minor sound.room) (λ ms. refl) (λ n. refl) refl (λ x. refl) tt (λ t v. refl) i);
+      subst (λ (rs : List Noted).
+      TopologyInvariant (record (topology_scene sc) { events = sc.directory.events ++ topo.Minor ∷ []; recs = rs }))
+      (append_none sc.recs)
+      (appended_inv (topology_scene sc) topo.Minor [] (few_after sc.directory.events topo.Minor sound.room) (λ ms. refl)
+      (λ n. refl) refl (λ x. refl) tt (λ t v. refl) i);
   moves = λ sc n s out sound r first i. moves_kept sc n s out sound r first i;
   drops = λ sc n s out sound r first away i. drops_kept sc n s out sound r first i;
-  joins = λ sc m s sound absent new is i. joins_kept sc m s absent new is i (few_after sc.directory.events (topo.Join m) sound.room);
+  joins = λ sc m s sound absent new is i. joins_kept sc m s absent new is i
+      (few_after sc.directory.events (topo.Join m) sound.room);
   loses = λ sc n sound lives i. loses_kept sc n i (few_after sc.directory.events (topo.Left n) sound.room);
   plans = λ sc refused sound i. calm sc None (note.Planned sc.directory.done refused) refl (λ x. refl) (tt, tt) refl i;
   starts = λ sc e sound is i. starting sc e sound is i;
@@ -124,27 +142,37 @@ module _ (s : Scenario) where
   abbrev seat_by : NodeId → Bool → TopologyPart
   seat_by id b = record { life = opening_life b; state = topology_state (opening_node s m id b) }
 
-  part_fits : (id : NodeId) (b : Bool) → is_member s.nodes id ≡ b → PartFits sc id (opening_life b) (topology_state (opening_node s m id b))
+  part_fits : (id : NodeId) (b : Bool) → is_member s.nodes id ≡ b →
+      PartFits sc id (opening_life b) (topology_state (opening_node s m id b))
   part_fits id true is = alive_fits_at id is
   part_fits id false is = fresh_at id
 
-  member_alive : (x : NodeId) → is_member s.nodes x ≡ true → sc.seat x ≡ Some (record { life = life.Alive; state = topology_state (opening_node s m x true) })
+  member_alive : (x : NodeId) → is_member s.nodes x ≡ true →
+      sc.seat x ≡ Some (record { life = life.Alive; state = topology_state (opening_node s m x true) })
   member_alive x member = ap (λ (b : Bool). Some (seat_by x b)) member
 
   oldest_has : (x : NodeId) → oldest_member s.nodes ≡ Some x → HasMap sc m.top x
-  oldest_has x is = inr (record { state = topology_state (opening_node s m x true); there = member_alive x (oldest_is_member s.nodes x is); holds = up_itself m.top })
+  oldest_has x is = inr (record {
+    state = topology_state (opening_node s m x true);
+    there =
+        member_alive x (oldest_is_member s.nodes x is);
+    holds = up_itself m.top;
+  })
 
   member_seen : (k : ℕ) → k ≤ 0 → (x : NodeId) → is_member (topology_at sc k).members x ≡ true → HasSeen sc first_top x
-  member_seen zero within x is = inr (record { state = topology_state (opening_node s m x true); there = member_alive x is; holds = up_itself first_top })
+  member_seen zero within x is =
+      inr (record { state = topology_state (opening_node s m x true); there = member_alive x is; holds = up_itself first_top })
   member_seen (suc k) within x is = absurd (omega (arith, within))
 
-  no_held : (v : TopVer) (to x : NodeId) (b : Bool) → opens_at_part v to (opening_life b) (topology_state (opening_node s m x b)) ≡ 0
+  no_held : (v : TopVer) (to x : NodeId) (b : Bool) →
+      opens_at_part v to (opening_life b) (topology_state (opening_node s m x b)) ≡ 0
   no_held v to x true = refl
   no_held v to x false = refl
 
   computed : (top : TopVer) (x : PartMap) → map_of sc top ≡ Some x → OldestHasMap sc top
   computed top x is =
-      (elim (same_top m.top top) as (λ b. same_top m.top top ≡ b → (if b then Some m else None) ≡ Some x → OldestHasMap sc top) [
+      (elim (same_top m.top top) as (λ b. same_top m.top top ≡ b → (if b then Some m else None) ≡ Some x →
+      OldestHasMap sc top) [
         | true ↦ λ t e. record {
           place = 0;
           within = omega arith;
@@ -161,7 +189,8 @@ module _ (s : Scenario) where
     once = λ x y v. let held = no_held v y x (is_member s.nodes x) in omega (arith, held);
     known = λ to v. inl refl;
     few = omega arith;
-    seats = λ n x is. subst (λ (y : TopologyPart). PartFits sc n y.life y.state) (some_is (seat_by n (is_member s.nodes n)) x is) (part_fits n (is_member s.nodes n) refl);
+    seats = λ n x is. subst (λ (y : TopologyPart). PartFits sc n y.life y.state)
+        (some_is (seat_by n (is_member s.nodes n)) x is) (part_fits n (is_member s.nodes n) refl);
     links = λ x y. tt;
     computed = computed;
     fit = tt;

@@ -36,9 +36,12 @@ pub record Later (a b : TopologyScene) : Type 0 where
   pub exact : (from to : NodeId) (top : TopVer) (m : Option PartMap) → SingleTells a from to top m → IsExact b from to top m
 
 module _ (a b : TopologyScene) (l : Later a b) where
-  either_later : (top : TopVer) (x y : Bool) (m : Member) → is_lost a.recs m.node ≡ x → has_noted_map a.recs top m.node ≡ y → (x || y) ≡ true → is_lost_or_has_installed b.recs top m ≡ true
-  either_later top true y m x_is y_is e = or_first (is_lost b.recs m.node) (has_noted_map b.recs top m.node) (l.lost m.node x_is)
-  either_later top false true m x_is y_is e = or_second (is_lost b.recs m.node) (has_noted_map b.recs top m.node) (l.installed top m.node y_is)
+  either_later : (top : TopVer) (x y : Bool) (m : Member) → is_lost a.recs m.node ≡ x → has_noted_map a.recs top m.node ≡ y →
+      (x || y) ≡ true → is_lost_or_has_installed b.recs top m ≡ true
+  either_later top true y m x_is y_is e = or_first (is_lost b.recs m.node) (has_noted_map b.recs top m.node)
+      (l.lost m.node x_is)
+  either_later top false true m x_is y_is e = or_second (is_lost b.recs m.node) (has_noted_map b.recs top m.node)
+      (l.installed top m.node y_is)
   either_later top false false m x_is y_is e = absurd (cc (e))
 
   pub all_installed_later : (top : TopVer) → AllHaveInstalled a top → AllHaveInstalled b top
@@ -49,7 +52,8 @@ module _ (a b : TopologyScene) (l : Later a b) where
         within = at.0;
         is_top = ap (λ (t : Topology). t.top) at.1 ∙ i.is_top;
         all = subst (λ (t : Topology). list_all (is_lost_or_has_installed b.recs top) t.members ≡ true) (sym at.1)
-            (all_change (is_lost_or_has_installed a.recs top) (is_lost_or_has_installed b.recs top) (topology_at a i.place).members
+            (all_change (is_lost_or_has_installed a.recs top) (is_lost_or_has_installed b.recs top)
+            (topology_at a i.place).members
             (λ m e. either_later top (is_lost a.recs m.node) (has_noted_map a.recs top m.node) m refl refl e) i.all);
       }
 
@@ -60,18 +64,31 @@ module _ (a b : TopologyScene) (l : Later a b) where
         place = c.place;
         within = at.0;
         is_top = ap (λ (t : Topology). t.top) at.1 ∙ c.is_top;
-        by_oldest = λ n is. l.has_map top n (c.by_oldest n (subst (λ (t : Topology). oldest_member t.members ≡ Some n) at.1 is));
+        by_oldest = λ n is. l.has_map top n
+            (c.by_oldest n (subst (λ (t : Topology). oldest_member t.members ≡ Some n) at.1 is));
       }
 
   pub oldest_later : (top : TopVer) (n : NodeId) → IsOldestMember a top n → IsOldestMember b top n
   oldest_later top n o =
       let at = l.events o.place o.within in
-      record { place = o.place; within = at.0; is_top = ap (λ (t : Topology). t.top) at.1 ∙ o.is_top; oldest = ap (λ (t : Topology). oldest_member t.members) at.1 ∙ o.oldest }
+      record {
+        place = o.place;
+        within = at.0;
+        is_top = ap (λ (t : Topology). t.top) at.1 ∙ o.is_top;
+        oldest =
+            ap (λ (t : Topology). oldest_member t.members) at.1 ∙ o.oldest;
+      }
 
   pub in_later : (top : TopVer) (n : NodeId) → IsMemberOf a top n → IsMemberOf b top n
   in_later top n o =
       let at = l.events o.place o.within in
-      record { place = o.place; within = at.0; is_top = ap (λ (t : Topology). t.top) at.1 ∙ o.is_top; member = ap (λ (t : Topology). is_member t.members n) at.1 ∙ o.member }
+      record {
+        place = o.place;
+        within = at.0;
+        is_top = ap (λ (t : Topology). t.top) at.1 ∙ o.is_top;
+        member =
+            ap (λ (t : Topology). is_member t.members n) at.1 ∙ o.member;
+      }
 
   pub member_later : (n : NodeId) (m : Option PartMap) → MemberFits a n m → MemberFits b n m
   member_later n None fits = tt
@@ -85,8 +102,15 @@ module _ (a b : TopologyScene) (l : Later a b) where
   has_it_later n None has = tt
   has_it_later n (Some m) has = l.has_map m.top n has
 
-  pub single_later : (from to : NodeId) (top : TopVer) (m : Option PartMap) → SingleTells a from to top m → SingleTells b from to top m
-  single_later from to top m t = (l.seen top from t.0, oldest_later top to t.1, is_map_later m t.2, l.exact from to top m t, has_it_later from m t.4)
+  pub single_later : (from to : NodeId) (top : TopVer) (m : Option PartMap) → SingleTells a from to top m →
+      SingleTells b from to top m
+  single_later from to top m t = (
+    l.seen top from t.0,
+    oldest_later top to t.1,
+    is_map_later m t.2,
+    l.exact from to top m t,
+    has_it_later from m t.4,
+  )
 
   pub one_later : (top : TopVer) → HasSomeMap a top → HasSomeMap b top
   one_later top o = record { one = o.one; is_map = l.maps top o.one o.is_map }
@@ -97,19 +121,31 @@ module _ (a b : TopologyScene) (l : Later a b) where
 
   pub tells_later : (from to : NodeId) (m : Message) → MessageTells a from to m → MessageTells b from to m
   tells_later from to (msg.Single top m complete) t = single_later from to top m t
-  tells_later from to (msg.Full m) t = (l.seen m.top to t.0, l.maps m.top m t.1, oldest_later m.top from t.2, l.has_map m.top from t.3, in_later m.top to t.4)
+  tells_later from to (msg.Full m) t = (
+    l.seen m.top to t.0,
+    l.maps m.top m t.1,
+    oldest_later m.top from t.2,
+    l.has_map m.top from t.3,
+    in_later m.top to t.4,
+  )
   tells_later from to (msg.Installed top) t = l.installed top from t
   tells_later from to (msg.Opens top) t = (all_installed_later top t.0, oldest_later top from t.1, one_later top t.2)
   tells_later from to _ t = t
 
-  pub link_later : (from to : NodeId) (ms : List Message) → HoldsOfEach (MessageTells a from to) ms → HoldsOfEach (MessageTells b from to) ms
-  link_later from to ms all = each_change (MessageTells a from to) (MessageTells b from to) ms (λ m t. tells_later from to m t) all
+  pub link_later : (from to : NodeId) (ms : List Message) → HoldsOfEach (MessageTells a from to) ms →
+      HoldsOfEach (MessageTells b from to) ms
+  link_later from to ms all = each_change (MessageTells a from to) (MessageTells b from to) ms
+      (λ m t. tells_later from to m t) all
 
-  pub outbox_later : (n : NodeId) (outs : List Out) → HoldsOfEach (λ (o : Out). MessageTells a n o.to o.msg) outs → HoldsOfEach (λ (o : Out). MessageTells b n o.to o.msg) outs
-  outbox_later n outs all = each_change (λ (o : Out). MessageTells a n o.to o.msg) (λ (o : Out). MessageTells b n o.to o.msg) outs (λ o t. tells_later n o.to o.msg t) all
+  pub outbox_later : (n : NodeId) (outs : List Out) → HoldsOfEach (λ (o : Out). MessageTells a n o.to o.msg) outs →
+      HoldsOfEach (λ (o : Out). MessageTells b n o.to o.msg) outs
+  outbox_later n outs all = each_change (λ (o : Out). MessageTells a n o.to o.msg) (λ (o : Out). MessageTells b n o.to o.msg)
+      outs (λ o t. tells_later n o.to o.msg t) all
 
-  pub singles_later : (n : NodeId) (xs : List Single) → HoldsOfEach (λ (x : Single). SingleTells a x.from n x.top x.map) xs → HoldsOfEach (λ (x : Single). SingleTells b x.from n x.top x.map) xs
-  singles_later n xs all = each_change (λ (x : Single). SingleTells a x.from n x.top x.map) (λ (x : Single). SingleTells b x.from n x.top x.map) xs (λ x t. single_later x.from n x.top x.map t) all
+  pub singles_later : (n : NodeId) (xs : List Single) → HoldsOfEach (λ (x : Single). SingleTells a x.from n x.top x.map) xs →
+      HoldsOfEach (λ (x : Single). SingleTells b x.from n x.top x.map) xs
+  singles_later n xs all = each_change (λ (x : Single). SingleTells a x.from n x.top x.map)
+      (λ (x : Single). SingleTells b x.from n x.top x.map) xs (λ x t. single_later x.from n x.top x.map t) all
 
   pub map_later : (t : Topology) (m : Option PartMap) → MapFits a t m → MapFits b t m
   map_later t None fits = tt
@@ -117,9 +153,14 @@ module _ (a b : TopologyScene) (l : Later a b) where
 
   pub exchange_later : (t : Topology) (x : Option Exchange) → ExchangeFits a t x → ExchangeFits b t x
   exchange_later t None fits = tt
-  exchange_later t (Some x) fits = (fits.0, all_change (has_noted_map a.recs x.top) (has_noted_map b.recs x.top) x.installed (λ n e. l.installed x.top n e) fits.1)
+  exchange_later t (Some x) fits = (
+    fits.0,
+    all_change (has_noted_map a.recs x.top) (has_noted_map b.recs x.top) x.installed (λ n e. l.installed x.top n e)
+        fits.1,
+  )
 
-  pub node_later : (n : NodeId) (f : TopologyState) → is_lost b.recs n ≡ false → is_member (last_members b) n ≡ true → NodeFits a n f → NodeFits b n f
+  pub node_later : (n : NodeId) (f : TopologyState) → is_lost b.recs n ≡ false → is_member (last_members b) n ≡ true →
+      NodeFits a n f → NodeFits b n f
   node_later n f lives member fits =
       let at = l.events f.read fits.within in
       record {
@@ -147,12 +188,15 @@ module _ (a b : TopologyScene) (l : Later a b) where
     no_outbox = fits.no_outbox;
   }
 
-  pub seat_later : (n : NodeId) (at : Life) (f : TopologyState) → (at ≡ life.Alive → (is_lost b.recs n ≡ false) × (is_member (last_members b) n ≡ true)) → PartFits a n at f → PartFits b n at f
+  pub seat_later : (n : NodeId) (at : Life) (f : TopologyState) →
+      (at ≡ life.Alive → (is_lost b.recs n ≡ false) × (is_member (last_members b) n ≡ true)) → PartFits a n at f →
+      PartFits b n at f
   seat_later n life.Alive f lives fits = (let both = lives refl in node_later n f both.0 both.1 fits)
   seat_later n life.Absent f lives fits = fresh_later n f fits
   seat_later n life.Gone f lives fits = tt
 
-  opened_later : (before : List Noted) (top : TopVer) → AllHaveInstalled (record a { recs = before }) top → AllHaveInstalled (record b { recs = before }) top
+  opened_later : (before : List Noted) (top : TopVer) → AllHaveInstalled (record a { recs = before }) top →
+      AllHaveInstalled (record b { recs = before }) top
   opened_later before top i =
       let at = l.events i.place i.within in
       record {
@@ -163,7 +207,9 @@ module _ (a b : TopologyScene) (l : Later a b) where
       }
 
   fits_later : (before : List Noted) (r : Rec) → RecordFits a before r → RecordFits b before r
-  fits_later before (note.Install m) fits = λ there is. fits there (subst (λ (s : Scenario). map_of_version (maps_installed s before) m.top ≡ Some there) l.same_scenario is)
+  fits_later before (note.Install m) fits =
+      λ there is. fits there (subst (λ (s : Scenario). map_of_version (maps_installed s before) m.top ≡ Some there)
+      l.same_scenario is)
   fits_later before (note.Opened top) fits = opened_later before top fits
   fits_later before _ fits = fits
 

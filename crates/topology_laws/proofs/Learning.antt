@@ -22,7 +22,8 @@ pub learned_me : (es : List TopoEvent) (s : NodeState) → (fold after_learn s e
 learned_me [] s = refl
 learned_me (e ∷ es) s = learned_me es (after_learn s e)
 
-pub learned_known : (es : List TopoEvent) (s : NodeState) → (topology_state (fold after_learn s es)).known ≡ last_topology (topology_state s).known es
+pub learned_known : (es : List TopoEvent) (s : NodeState) → (topology_state (fold after_learn s es)).known ≡ last_topology
+    (topology_state s).known es
 learned_known [] s = refl
 learned_known (e ∷ es) s = learned_known es (after_learn s e)
 
@@ -42,7 +43,8 @@ pub learned_exchange : (es : List TopoEvent) (s : NodeState) → s.exchange ≡ 
 learned_exchange [] s none = none
 learned_exchange (e ∷ es) s none = learned_exchange es (after_learn s e) refl
 
-pub learned_read : (es : List TopoEvent) (s : NodeState) → s.read + length es < 2 ^ 63 → (fold after_learn s es).read ≡ s.read + length es
+pub learned_read : (es : List TopoEvent) (s : NodeState) → s.read + length es < 2 ^ 63 →
+    (fold after_learn s es).read ≡ s.read + length es
 learned_read [] s small = none_more s.read
   where
     none_more : (n : ℕ) → n ≡ n + 0
@@ -68,21 +70,27 @@ was_member id n (m ∷ ms) is =
     elim (same_node n m.node) as (λ b. same_node n m.node ≡ b → (b || is_member ms n) ≡ true) [
       | true ↦ λ t. refl
       | false ↦ λ f.
-          (elim (same_node m.node id) as (λ b. is_member (if not b then m ∷ without_node id ms else without_node id ms) n ≡ true → is_member ms n ≡ true) [
+          (elim (same_node m.node id) as (λ b. is_member (if not b then m ∷ without_node id ms else without_node id ms) n
+          ≡ true → is_member ms n ≡ true) [
             | true ↦ λ e. was_member id n ms e
             | false ↦ λ e. was_member id n ms (sym (ap (λ (c : Bool). c || is_member (without_node id ms) n) f) ∙ e)
           ]) is
     ] refl
 
-pub still_member : (id n : NodeId) (ms : List Member) → same_node id n ≡ false → is_member ms n ≡ true → is_member (without_node id ms) n ≡ true
+pub still_member : (id n : NodeId) (ms : List Member) → same_node id n ≡ false → is_member ms n ≡ true →
+    is_member (without_node id ms) n ≡ true
 still_member id n [] other is = absurd (cc (is))
 still_member id n (m ∷ ms) other is =
-    (elim (same_node n m.node) as (λ b. same_node n m.node ≡ b → (b || is_member ms n) ≡ true → is_member (without_node id (m ∷ ms)) n ≡ true) [
+    (elim (same_node n m.node) as (λ b. same_node n m.node ≡ b → (b || is_member ms n) ≡ true →
+    is_member (without_node id (m ∷ ms)) n ≡ true) [
       | true ↦ λ t e.
-          let apart : same_node m.node id ≡ false = false_if (same_node m.node id) (λ x. let back = same_node_turned m.node id x in let here = subst (λ (y : NodeId). same_node id y ≡ false) (same_node_true n m.node t) other in absurd (cc (back, here))) in
+          let apart : same_node m.node id ≡ false = false_if (same_node m.node id) (λ x. let back =
+          same_node_turned m.node id x in let here =
+          subst (λ (y : NodeId). same_node id y ≡ false) (same_node_true n m.node t) other in absurd (cc (back, here))) in
           rw apart (rw t refl)
       | false ↦ λ f e.
-          elim (same_node m.node id) as (λ b. is_member (if not b then m ∷ without_node id ms else without_node id ms) n ≡ true) [
+          elim (same_node m.node id) as (λ b. is_member (if not b then m ∷ without_node id ms else without_node id ms) n
+          ≡ true) [
             | true ↦ still_member id n ms other e
             | false ↦ rw f (still_member id n ms other e)
           ]

@@ -27,14 +27,16 @@ use Rattle.ignite_types.specs.Names.{same_node}
 use Rattle.ignite_types.specs.declared.message.Message.TheVariants as msg
 use Rattle.ignite_types.specs.declared.journal.Rec.TheVariants as note
 
-both_quiet : (xs ys : List Rec) → list_all says_no_topology xs ≡ true → list_all says_no_topology ys ≡ true → list_all says_no_topology (xs ++ ys) ≡ true
+both_quiet : (xs ys : List Rec) → list_all says_no_topology xs ≡ true → list_all says_no_topology ys ≡ true →
+    list_all says_no_topology (xs ++ ys) ≡ true
 both_quiet [] ys first second = second
 both_quiet (x ∷ xs) ys first second =
     let both = first_rest (says_no_topology x) (list_all says_no_topology xs) first in
     rw both.0 (both_quiet xs ys both.1 second)
 
 -- nothing is noted or sent
-pub aside : (before after : NodeState) → after.noted ≡ before.noted → topology_state after ≡ topology_state before → LeavesTopology before after
+pub aside : (before after : NodeState) → after.noted ≡ before.noted → topology_state after ≡ topology_state before →
+    LeavesTopology before after
 aside before after noted same = record {
   more = [];
   noted_is = noted ∙ sym (append_none before.noted);
@@ -89,14 +91,21 @@ sent_quiet s outs plain = record {
 enqueued_quiet : (s : NodeState) (tx : TxId) (key : Key) → LeavesTopology s (with_queued s tx key)
 enqueued_quiet s tx key = aside s (with_queued s tx key) refl refl
 
-grants_quiet : (s : NodeState) (to : NodeId) (tx : TxId) (top : TopVer) (key : Key) → LeavesTopology s (after_grant s to tx top key)
-grants_quiet s to tx top key = andthen s (with_note s (note.Grant tx top key)) (after_grant s to tx top key) (noting_quiet s (note.Grant tx top key) refl) (sent_quiet (with_note s (note.Grant tx top key)) _ refl)
+grants_quiet : (s : NodeState) (to : NodeId) (tx : TxId) (top : TopVer) (key : Key) →
+    LeavesTopology s (after_grant s to tx top key)
+grants_quiet s to tx top key = andthen s (with_note s (note.Grant tx top key)) (after_grant s to tx top key)
+    (noting_quiet s (note.Grant tx top key) refl) (sent_quiet (with_note s (note.Grant tx top key)) _ refl)
 
-placed_quiet : (s : NodeState) (from : NodeId) (tx : TxId) (top : TopVer) (key : Key) (owner : Option TxId) → LeavesTopology s (after_lock_behind s from tx top key owner)
-placed_quiet s from tx top key None = andthen s (with_queued s tx key) (after_grant (with_queued s tx key) from tx top key) (enqueued_quiet s tx key) (grants_quiet (with_queued s tx key) from tx top key)
-placed_quiet s from tx top key (Some owner) = andthen s (with_queued s tx key) (with_note (with_queued s tx key) (note.Queue tx key owner)) (enqueued_quiet s tx key) (noting_quiet (with_queued s tx key) (note.Queue tx key owner) refl)
+placed_quiet : (s : NodeState) (from : NodeId) (tx : TxId) (top : TopVer) (key : Key) (owner : Option TxId) →
+    LeavesTopology s (after_lock_behind s from tx top key owner)
+placed_quiet s from tx top key None = andthen s (with_queued s tx key) (after_grant (with_queued s tx key) from tx top key)
+    (enqueued_quiet s tx key) (grants_quiet (with_queued s tx key) from tx top key)
+placed_quiet s from tx top key (Some owner) =
+    andthen s (with_queued s tx key) (with_note (with_queued s tx key) (note.Queue tx key owner)) (enqueued_quiet s tx key)
+    (noting_quiet (with_queued s tx key) (note.Queue tx key owner) refl)
 
-passed_on_quiet : (s : NodeState) (key : Key) (was_owner : Bool) (owner : Option TxId) → LeavesTopology s (after_pass_on s key was_owner owner)
+passed_on_quiet : (s : NodeState) (key : Key) (was_owner : Bool) (owner : Option TxId) →
+    LeavesTopology s (after_pass_on s key was_owner owner)
 passed_on_quiet s key true (Some next) = grants_quiet s next.node next (installed_top s) key
 passed_on_quiet s key true None = nothing s
 passed_on_quiet s key false owner = nothing s
@@ -130,7 +139,8 @@ quieting = record {
   sent_all = sent_quiet;
   placed = λ s from tx top key. placed_quiet s from tx top key (owner_at s key);
   released = released_quiet;
-  owned = λ s tx top key free. andthen s (with_queued s tx key) (with_note (with_queued s tx key) (note.Grant tx top key)) (enqueued_quiet s tx key) (noting_quiet (with_queued s tx key) (note.Grant tx top key) refl);
+  owned = λ s tx top key free. andthen s (with_queued s tx key) (with_note (with_queued s tx key) (note.Grant tx top key))
+      (enqueued_quiet s tx key) (noting_quiet (with_queued s tx key) (note.Grant tx top key) refl);
 }
 
 -- A plain message tells nothing.
@@ -142,13 +152,15 @@ plain_tells sc from to (msg.Installed top) plain = absurd (cc (plain))
 plain_tells sc from to (msg.Opens top) plain = absurd (cc (plain))
 plain_tells sc from to _ plain = tt
 
-pub all_tell : (sc : TopologyScene) (n : NodeId) (outs : List Out) → list_all is_plain_out outs ≡ true → HoldsOfEach (λ (o : Out). MessageTells sc n o.to o.msg) outs
+pub all_tell : (sc : TopologyScene) (n : NodeId) (outs : List Out) → list_all is_plain_out outs ≡ true →
+    HoldsOfEach (λ (o : Out). MessageTells sc n o.to o.msg) outs
 all_tell sc n [] plain = tt
 all_tell sc n (o ∷ os) plain =
     let both = first_rest (is_plain_out o) (list_all is_plain_out os) plain in
     (plain_tells sc n o.to o.msg both.0, all_tell sc n os both.1)
 
-pub quiet_good : (sc : TopologyScene) (n : NodeId) (a b : NodeState) → LeavesTopology a b → HoldsInTopologyAct sc n a → HoldsInTopologyAct sc n b
+pub quiet_good : (sc : TopologyScene) (n : NodeId) (a b : NodeState) → LeavesTopology a b → HoldsInTopologyAct sc n a →
+    HoldsInTopologyAct sc n b
 quiet_good sc n a b q good =
     calm_good sc n a b q.more q.noted_is q.quiet
     (λ top up. subst (λ (f : TopologyState). IsUpTo top f.known.top) (sym q.face_is) up)
@@ -166,25 +178,33 @@ quiet_good sc n a b q good =
       exchange_fits = k.exchange_fits;
       exchange_oldest = k.exchange_oldest;
       singles_tell = k.singles_tell;
-      outbox_tells = each_both (λ (o : Out). MessageTells (topology_in_act sc n b) n o.to o.msg) a.outbox q.sent k.outbox_tells (all_tell (topology_in_act sc n b) n q.sent q.plain);
+      outbox_tells = each_both (λ (o : Out). MessageTells (topology_in_act sc n b) n o.to o.msg) a.outbox q.sent
+          k.outbox_tells (all_tell (topology_in_act sc n b) n q.sent q.plain);
     }))
   where
-    held_no_more : (to : NodeId) (v : TopVer) → opens_in_outbox v to b.outbox + opens_in_exchange v b.exchange ≤ opens_in_outbox v to a.outbox + opens_in_exchange v a.exchange
+    held_no_more : (to : NodeId) (v : TopVer) → opens_in_outbox v to b.outbox + opens_in_exchange v b.exchange
+        ≤ opens_in_outbox v to a.outbox + opens_in_exchange v a.exchange
     held_no_more to v =
-        let parts : opens_in_outbox v to (a.outbox ++ q.sent) ≡ opens_in_outbox v to a.outbox + opens_in_outbox v to q.sent = count_parts (λ (o : Out). same_node o.to to && is_opens_of v o.msg) a.outbox q.sent in
+        let parts : opens_in_outbox v to (a.outbox ++ q.sent) ≡ opens_in_outbox v to a.outbox + opens_in_outbox v to q.sent =
+        count_parts (λ (o : Out). same_node o.to to && is_opens_of v o.msg) a.outbox q.sent in
         let nothing = plain_out v to q.sent q.plain in
-        let fewer : opens_in_outbox v to (a.outbox ++ q.sent) + opens_in_exchange v a.exchange ≤ opens_in_outbox v to a.outbox + opens_in_exchange v a.exchange = omega (arith, parts, nothing) in
-        subst (λ (f : TopologyState). opens_in_outbox v to f.outbox + opens_in_exchange v f.exchange ≤ opens_in_outbox v to a.outbox + opens_in_exchange v a.exchange) (sym q.face_is) fewer
+        let fewer : opens_in_outbox v to (a.outbox ++ q.sent) + opens_in_exchange v a.exchange ≤ opens_in_outbox v to a.outbox
+        + opens_in_exchange v a.exchange = omega (arith, parts, nothing) in
+        subst (λ (f : TopologyState). opens_in_outbox v to f.outbox + opens_in_exchange v f.exchange
+        ≤ opens_in_outbox v to a.outbox + opens_in_exchange v a.exchange) (sym q.face_is) fewer
 
 -- The same with the invariant itself as the relation: a row keeps it because its steps do.
-pub good_kit : (sc : TopologyScene) (n : NodeId) → ClosedUnderSteps (λ (a b : NodeState). HoldsInTopologyAct sc n a → HoldsInTopologyAct sc n b)
+pub good_kit : (sc : TopologyScene) (n : NodeId) → ClosedUnderSteps (λ (a b : NodeState). HoldsInTopologyAct sc n a →
+    HoldsInTopologyAct sc n b)
 good_kit sc n = record {
   nothing = λ s good. good;
   andthen = λ a b c first second good. second (first good);
   aside = λ before after same. quiet_good sc n before after (quieting.aside before after same);
   noting = λ s r own lockless other. quiet_good sc n s (with_note s r) (quieting.noting s r own lockless other);
   sent_all = λ s outs plain. quiet_good sc n s (with_outs s outs) (sent_quiet s outs plain);
-  placed = λ s from tx top key. quiet_good sc n s (after_lock_behind s from tx top key (owner_at s key)) (quieting.placed s from tx top key);
+  placed = λ s from tx top key. quiet_good sc n s (after_lock_behind s from tx top key (owner_at s key))
+      (quieting.placed s from tx top key);
   released = λ s tx key. quiet_good sc n s (after_release s tx key) (quieting.released s tx key);
-  owned = λ s tx top key free. quiet_good sc n s (with_note (with_queued s tx key) (note.Grant tx top key)) (quieting.owned s tx top key free);
+  owned = λ s tx top key free. quiet_good sc n s (with_note (with_queued s tx key) (note.Grant tx top key))
+      (quieting.owned s tx top key free);
 }

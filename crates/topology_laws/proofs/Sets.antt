@@ -27,7 +27,8 @@ pub once_there : (xs : List NodeId) (lo : ℕ) (x : NodeId) → rises lo xs ≡ 
 once_there [] lo x up = omega arith
 once_there (y ∷ ys) lo x up =
     let both = first_rest (nat_le lo y.0) (rises (suc y.0) ys) up in
-    elim (same_node y x) as (λ b. same_node y x ≡ b → length (if b then y ∷ filter (λ (z : NodeId). same_node z x) ys else filter (λ (z : NodeId). same_node z x) ys) ≤ 1) [
+    elim (same_node y x) as (λ b. same_node y x ≡ b →
+    length (if b then y ∷ filter (λ (z : NodeId). same_node z x) ys else filter (λ (z : NodeId). same_node z x) ys) ≤ 1) [
       | true ↦ λ t.
           let same : y.0 ≡ x.0 = grind (arith, nat_tests, t) in
           let none = below_none ys (suc y.0) x both.1 (omega (arith, same)) in
@@ -56,7 +57,8 @@ not_there : (xs : List NodeId) (lo : ℕ) (k : NodeId) → rises lo xs ≡ true 
 not_there [] lo k up = refl
 not_there (y ∷ ys) lo k up =
     let both = first_rest (nat_le lo y.0) (rises (suc y.0) ys) up in
-    elim (node_cmp k y) as (λ r. node_cmp k y ≡ r → times k (match_ordering r (y ∷ ys) ys (y ∷ without_member node_cmp ys k)) ≡ 0) [
+    elim (node_cmp k y) as (λ r. node_cmp k y ≡ r → times k (match_ordering r (y ∷ ys) ys (y ∷ without_member node_cmp ys k))
+    ≡ 0) [
       | Less ↦ λ g.
           let less = less_is k.0 y.0 g in
           let other : same_node y k ≡ false = grind (arith, nat_tests, less) in
@@ -71,7 +73,8 @@ not_there (y ∷ ys) lo k up =
     ] refl
 
 pub others_once : (ms : List Member) (me x : NodeId) → times x (without_member node_cmp (node_set [] ms) me) ≤ 1
-others_once ms me x = once_there (without_member node_cmp (node_set [] ms) me) 0 x (without_rises (node_set [] ms) 0 me (set_rises [] ms refl))
+others_once ms me x = once_there (without_member node_cmp (node_set [] ms) me) 0 x
+    (without_rises (node_set [] ms) 0 me (set_rises [] ms refl))
 
 pub others_not_me : (ms : List Member) (me : NodeId) → times me (without_member node_cmp (node_set [] ms) me) ≡ 0
 others_not_me ms me = not_there (node_set [] ms) 0 me (set_rises [] ms refl)

@@ -129,7 +129,8 @@ pub record HasSomeMap (sc : TopologyScene) (top : TopVer) : Type 0 where
 abbrev pub MessageTells : TopologyScene → NodeId → NodeId → Message → Type 0
 MessageTells sc from to (msg.Single top m complete) = SingleTells sc from to top m
 MessageTells sc from to (msg.Full m) =
-    HasSeen sc m.top to × (map_of sc m.top ≡ Some m) × IsOldestMember sc m.top from × HasMap sc m.top from × IsMemberOf sc m.top to
+    HasSeen sc m.top to × (map_of sc m.top ≡ Some m) × IsOldestMember sc m.top from × HasMap sc m.top from
+    × IsMemberOf sc m.top to
 MessageTells sc from to (msg.Installed top) = has_noted_map sc.recs top from ≡ true
 MessageTells sc from to (msg.Opens top) = AllHaveInstalled sc top × IsOldestMember sc top from × HasSomeMap sc top
 MessageTells sc from to _ = Unit {0}

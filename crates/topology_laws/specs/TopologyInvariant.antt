@@ -15,11 +15,13 @@ pub record TopologyInvariant (sc : TopologyScene) : Type 0 where
   -- a node that is not lost never left
   pub lefts : (n : NodeId) → is_lost sc.recs n ≡ false → never_leaves n sc.events ≡ true
   -- who was a member of any version is lost, or alive
-  pub sat : (k : ℕ) → k ≤ length sc.events → (n : NodeId) → is_member (topology_at sc k).members n ≡ true → HasSeen sc first_top n
+  pub sat : (k : ℕ) → k ≤ length sc.events → (n : NodeId) → is_member (topology_at sc k).members n ≡ true →
+      HasSeen sc first_top n
   -- there are few topology events, so that versions rise
   pub few : length sc.events < 2 ^ 63
   -- Nodes and messages.
-  -- a node that is alive knows the version that it has read, its map is one of the journal, and what it keeps tells the truth; one
+  -- a node that is alive knows the version that it has read, its map is one of the journal, and what it keeps tells the
+  -- truth; one
   -- that has not joined keeps nothing
   pub seats : (n : NodeId) (x : TopologyPart) → sc.seat n ≡ Some x → PartFits sc n x.life x.state
   -- what each message on its way tells is true

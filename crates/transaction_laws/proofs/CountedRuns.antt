@@ -27,20 +27,29 @@ module _ (Inv : ℕ → Scene → Type 0) (leads : (k : ℕ) → k < 2 ^ 62 → 
   abbrev session_nodes : Scenario → Homes
   session_nodes s = session_nodes_from 1 [] s.sessions
 
-  group_counts : (k : ℕ) → k < 2 ^ 62 → (s : Scenario) (recs : List Noted) (w : World) (g : Group) → suc (length w.directory.events) < 2 ^ 63 → Holds Base s recs w → Inv k (scene_of s recs w) → IsStep w g
+  group_counts : (k : ℕ) → k < 2 ^ 62 → (s : Scenario) (recs : List Noted) (w : World) (g : Group) →
+      suc (length w.directory.events) < 2 ^ 63 → Holds Base s recs w → Inv k (scene_of s recs w) → IsStep w g
       → Inv (suc k) (scene_of s (recs ++ noted_in s (session_nodes s) g) (outcome w g.event).world)
   group_counts k few s recs w g room h i step =
       let can = first_rest (not w.broken && can_be w g.event) (not (is_tick g.event) || is_quiet w) step.possible_event in
       let possible = (first_rest (not w.broken) (can_be w g.event) can.0).1 in
       let w2 = (outcome w g.event).world in
-      subst (λ (rs : List Rec). Inv (suc k) (scene_of s (recs ++ noted_for s (actor (session_nodes s) g.event) g.event rs) w2)) (sym step.same_records)
-      (subst (λ (nodes : Homes). Inv (suc k) (scene_of s (recs ++ noted_for s (actor nodes g.event) g.event (outcome w g.event).recs) w2)) h.carries.session_nodes_are
-      (event_goes (Inv k) (Inv (suc k)) (leads k few) s recs w h.carries (sound_of s recs w h.carries room h.base) h.full i g.event possible))
+      subst (λ (rs : List Rec).
+      Inv (suc k) (scene_of s (recs ++ noted_for s (actor (session_nodes s) g.event) g.event rs) w2))
+      (sym step.same_records)
+      (subst (λ (nodes : Homes).
+      Inv (suc k) (scene_of s (recs ++ noted_for s (actor nodes g.event) g.event (outcome w g.event).recs) w2))
+      h.carries.session_nodes_are
+      (event_goes (Inv k) (Inv (suc k)) (leads k few) s recs w h.carries (sound_of s recs w h.carries room h.base) h.full i
+      g.event possible))
 
-  run_counts : (k : ℕ) (s : Scenario) (recs : List Noted) (w : World) (gs : List Group) → length s.plan ≤ 64 → length w.directory.events + length gs < 2 ^ 63 → k + length gs < 2 ^ 62 → Holds Base s recs w → Inv k (scene_of s recs w) → AreSteps w gs
+  run_counts : (k : ℕ) (s : Scenario) (recs : List Noted) (w : World) (gs : List Group) → length s.plan ≤ 64 →
+      length w.directory.events + length gs < 2 ^ 63 → k + length gs < 2 ^ 62 → Holds Base s recs w →
+      Inv k (scene_of s recs w) → AreSteps w gs
       → Inv (k + length gs) (scene_of s (recs ++ flat_map (noted_in s (session_nodes s)) gs) (world_after w gs))
   run_counts k s recs w [] short room few h i steps =
-      subst (λ (n : ℕ). Inv n (scene_of s (recs ++ []) w)) (sym (none_more k)) (subst (λ (rs : List Noted). Inv k (scene_of s rs w)) (sym (append_none recs)) i)
+      subst (λ (n : ℕ). Inv n (scene_of s (recs ++ []) w)) (sym (none_more k))
+      (subst (λ (rs : List Noted). Inv k (scene_of s rs w)) (sym (append_none recs)) i)
     where
       none_more : (n : ℕ) → n + 0 ≡ n
       none_more n = omega arith
@@ -48,22 +57,28 @@ module _ (Inv : ℕ → Scene → Type 0) (leads : (k : ℕ) → k < 2 ^ 62 → 
       let next = group_holds Base base_kept s recs w g short (omega (arith, room)) h steps.0 in
       let more = next.1 in
       let one = group_counts k (omega (arith, few)) s recs w g (omega (arith, room)) h i steps.0 in
-      let rest = run_counts (suc k) s (recs ++ noted_in s (session_nodes s) g) (outcome w g.event).world gs short (omega (arith, room, more)) (omega (arith, few)) next.0 one steps.1 in
-      subst (λ (n : ℕ). Inv n (scene_of s (recs ++ flat_map (noted_in s (session_nodes s)) (g ∷ gs)) (world_after w (g ∷ gs)))) (one_more k (length gs))
-      (subst (λ (rs : List Noted). Inv (suc k + length gs) (scene_of s rs (world_after w (g ∷ gs)))) (append_twice recs (noted_in s (session_nodes s) g) (flat_map (noted_in s (session_nodes s)) gs)) rest)
+      let rest = run_counts (suc k) s (recs ++ noted_in s (session_nodes s) g) (outcome w g.event).world gs short
+      (omega (arith, room, more)) (omega (arith, few)) next.0 one steps.1 in
+      subst (λ (n : ℕ). Inv n (scene_of s (recs ++ flat_map (noted_in s (session_nodes s)) (g ∷ gs))
+      (world_after w (g ∷ gs)))) (one_more k (length gs))
+      (subst (λ (rs : List Noted). Inv (suc k + length gs) (scene_of s rs (world_after w (g ∷ gs))))
+      (append_twice recs (noted_in s (session_nodes s) g) (flat_map (noted_in s (session_nodes s)) gs)) rest)
     where
       one_more : (n m : ℕ) → suc n + m ≡ n + suc m
       one_more n m = omega arith
 
   -- of the scene in which a legal run ends
-  pub counted_holds : ((s : Scenario) → IsTrue (good s) → Inv 0 (opening_scene s)) → (j : Journal) → IsTrue (good j.scenario) → length j.groups < 2 ^ 62 → IsLegal j → Inv (length j.groups) (last_scene j)
+  pub counted_holds : ((s : Scenario) → IsTrue (good s) → Inv 0 (opening_scene s)) → (j : Journal) →
+      IsTrue (good j.scenario) → length j.groups < 2 ^ 62 → IsLegal j → Inv (length j.groups) (last_scene j)
   counted_holds first j is_good few legal =
       let s = j.scenario in
-      let all = first_rest (good_format s.format s.caches && good_caches s.caches && good_nodes s && good_plan s) (good_sessions s) is_good in
+      let all = first_rest (good_format s.format s.caches && good_caches s.caches && good_nodes s && good_plan s)
+      (good_sessions s) is_good in
       let four = first_rest (good_format s.format s.caches && good_caches s.caches && good_nodes s) (good_plan s) all.0 in
       let nodes = (first_rest (good_format s.format s.caches && good_caches s.caches) (good_nodes s) four.0).1 in
       let apart = nodes_apart s nodes in
-      let counted = run_counts 0 s [] (opening s) j.groups (plan_short s four.1) (omega (arith, few)) (omega (arith, few)) (record {
+      let counted = run_counts 0 s [] (opening s) j.groups (plan_short s four.1) (omega (arith, few)) (omega (arith, few))
+      (record {
         carries = opening_carries s apart;
         base = subst Base (sym (opening_is s apart)) (opening_base s);
         full = opening_full s apart;

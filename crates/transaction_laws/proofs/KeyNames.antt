@@ -19,7 +19,11 @@ texts_exact (x ∷ s) (y ∷ t) h =
     cc
 
 same_key_true : (a b : Key) → same_key a b ≡ true → a ≡ b
-same_key_true a b h = let cache : a.cache ≡ b.cache = eqb-true a.cache b.cache (first_so (nat_eq a.cache b.cache) (pointwise nat_eq a.text b.text) h) in let text : a.text ≡ b.text = texts_exact a.text b.text (second_so (nat_eq a.cache b.cache) (pointwise nat_eq a.text b.text) h) in (λ i. record { cache = cache i; text = text i })
+same_key_true a b h = let cache : a.cache ≡ b.cache =
+    eqb-true a.cache b.cache (first_so (nat_eq a.cache b.cache) (pointwise nat_eq a.text b.text) h) in
+    let text : a.text ≡ b.text =
+    texts_exact a.text b.text (second_so (nat_eq a.cache b.cache) (pointwise nat_eq a.text b.text) h) in
+    (λ i. record { cache = cache i; text = text i })
 
 is_key_is : (k l : Key) (x : Option Key) → is_that_key k x ≡ true → is_that_key l x ≡ true → k ≡ l
 is_key_is k l None a b = absurd (cc)

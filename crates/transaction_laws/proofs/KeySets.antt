@@ -20,7 +20,8 @@ as_table (x ∷ xs) = (x, tt) ∷ as_table xs
 has_as : (xs : List Key) (k : Key) → has key_cmp xs k ≡ is_some (at key_cmp (as_table xs) k)
 has_as [] k = refl
 has_as (x ∷ xs) k =
-    elim (key_cmp k x) as (λ r. match_ordering r false true (has key_cmp xs k) ≡ is_some (match_ordering r None (Some tt) (at key_cmp (as_table xs) k))) [
+    elim (key_cmp k x) as (λ r. match_ordering r false true (has key_cmp xs k) ≡ is_some
+    (match_ordering r None (Some tt) (at key_cmp (as_table xs) k))) [
       | Less ↦ refl
       | Equal ↦ refl
       | Greater ↦ has_as xs k
@@ -29,7 +30,9 @@ has_as (x ∷ xs) k =
 table_with : (xs : List Key) (k : Key) → as_table (with_member key_cmp xs k) ≡ put key_cmp (as_table xs) k tt
 table_with [] k = refl
 table_with (x ∷ xs) k =
-    elim (key_cmp k x) as (λ r. key_cmp k x ≡ r → as_table (match_ordering r (k ∷ x ∷ xs) (x ∷ xs) (x ∷ with_member key_cmp xs k)) ≡ match_ordering r ((k, tt) ∷ (x, tt) ∷ as_table xs) ((k, tt) ∷ as_table xs) ((x, tt) ∷ put key_cmp (as_table xs) k tt)) [
+    elim (key_cmp k x) as (λ r. key_cmp k x ≡ r →
+    as_table (match_ordering r (k ∷ x ∷ xs) (x ∷ xs) (x ∷ with_member key_cmp xs k)) ≡ match_ordering r
+    ((k, tt) ∷ (x, tt) ∷ as_table xs) ((k, tt) ∷ as_table xs) ((x, tt) ∷ put key_cmp (as_table xs) k tt)) [
       | Less ↦ λ g. refl
       | Equal ↦ λ g. ap (λ (y : Key). (y, tt) ∷ as_table xs) (sym (exact_keys k x g))
       | Greater ↦ λ g. ap (λ rest. (x, tt) ∷ rest) (table_with xs k)
@@ -37,10 +40,16 @@ table_with (x ∷ xs) k =
 
 -- a set with one more member has it
 pub has_itself : (xs : List Key) (k : Key) → has key_cmp (with_member key_cmp xs k) k ≡ true
-has_itself xs k = rw (has_as (with_member key_cmp xs k) k, table_with xs k, laws.at_put_same key_cmp key_total (as_table xs) k tt) refl
+has_itself xs k = rw (
+  has_as (with_member key_cmp xs k) k,
+  table_with xs k,
+  laws.at_put_same key_cmp key_total (as_table xs) k tt,
+) refl
 
 -- what a set with one more member has
-pub has_with : (xs : List Key) (k q : Key) → ((q ≡ k) × (has key_cmp (with_member key_cmp xs k) q ≡ true)) ⊎ (has key_cmp (with_member key_cmp xs k) q ≡ has key_cmp xs q)
+pub has_with : (xs : List Key) (k q : Key) → ((q ≡ k) × (has key_cmp (with_member key_cmp xs k) q ≡ true))
+    ⊎ (has key_cmp (with_member key_cmp xs k) q ≡ has key_cmp xs q)
 has_with xs k q =
     rw (has_as (with_member key_cmp xs k) q, table_with xs k, has_as xs q)
-    (put_elim key_cmp key_total exact_keys (λ q x. ((q ≡ k) × (is_some x ≡ true)) ⊎ (is_some x ≡ is_some (at key_cmp (as_table xs) q))) (as_table xs) k tt (inl (refl, refl)) (λ q ne. inr refl) q)
+    (put_elim key_cmp key_total exact_keys (λ q x. ((q ≡ k) × (is_some x ≡ true))
+    ⊎ (is_some x ≡ is_some (at key_cmp (as_table xs) q))) (as_table xs) k tt (inl (refl, refl)) (λ q ne. inr refl) q)

@@ -14,7 +14,8 @@ use Rattle.ignite_types.specs.declared.journal.Rec.TheVariants as note
 abbrev pub SameOpen : NodeState → NodeState → Type 0
 SameOpen a b = (b.seen ≡ a.seen) × (b.opened ≡ a.opened)
 
-placed : (s : NodeState) (from : NodeId) (tx : TxId) (top : TopVer) (key : Key) (owner : Option TxId) → SameOpen s (after_lock_behind s from tx top key owner)
+placed : (s : NodeState) (from : NodeId) (tx : TxId) (top : TopVer) (key : Key) (owner : Option TxId) →
+    SameOpen s (after_lock_behind s from tx top key owner)
 placed s from tx top key None = (refl, refl)
 placed s from tx top key (Some owner) = (refl, refl)
 
@@ -31,7 +32,8 @@ same_open = record {
   noting = λ s r own lockless other. (refl, refl);
   sent_all = λ s outs plain. (refl, refl);
   placed = λ s from tx top key. placed s from tx top key (owner_at s key);
-  released = λ s tx key. let after = with_note (after_leave s tx key) (note.Drop tx key) in passed after key (is_owner tx (owner_at s key)) (owner_at after key);
+  released = λ s tx key. let after = with_note (after_leave s tx key) (note.Drop tx key) in
+      passed after key (is_owner tx (owner_at s key)) (owner_at after key);
   owned = λ s tx top key free. (refl, refl);
 }
 

@@ -31,16 +31,22 @@ same_or cmp exact k q =
     ] refl
 
 module _ {K V : Type 0} (cmp : K → K → Ordering) (o : IsTotalOrder cmp) (exact : CmpEqualImpliesEq cmp) where
-  pub put_elim : (P : K → Option V → Type 0) (es : List (K × V)) (k : K) (v : V) → P k (Some v) → ((q : K) → (q ≡ k → ⊥) → P q (at cmp es q)) → (q : K) → P q (at cmp (put cmp es k v) q)
+  pub put_elim : (P : K → Option V → Type 0) (es : List (K × V)) (k : K) (v : V) → P k (Some v) →
+      ((q : K) → (q ≡ k → ⊥) → P q (at cmp es q)) → (q : K) → P q (at cmp (put cmp es k v) q)
   put_elim P es k v here rest q = go (same_or cmp exact k q)
     where
       go : (q ≡ k) ⊎ (cmp q k ≢ Equal) → P q (at cmp (put cmp es k v) q)
-      go (inl e) = subst (λ (x : K). P x (at cmp (put cmp es k v) x)) (sym e) (subst (P k) (sym (laws.at_put_same cmp o es k v)) here)
-      go (inr ne) = subst (P q) (sym (laws.at_put_other cmp o es k q v ne)) (rest q (λ e. ne (subst (λ (x : K). cmp x k ≡ Equal) (sym e) (tied_itself o k))))
+      go (inl e) = subst (λ (x : K). P x (at cmp (put cmp es k v) x)) (sym e)
+          (subst (P k) (sym (laws.at_put_same cmp o es k v)) here)
+      go (inr ne) = subst (P q) (sym (laws.at_put_other cmp o es k q v ne))
+          (rest q (λ e. ne (subst (λ (x : K). cmp x k ≡ Equal) (sym e) (tied_itself o k))))
 
-  pub without_elim : (P : K → Option V → Type 0) (es : List (K × V)) (k : K) → IsAscending cmp es → P k None → ((q : K) → (q ≡ k → ⊥) → P q (at cmp es q)) → (q : K) → P q (at cmp (without cmp es k) q)
+  pub without_elim : (P : K → Option V → Type 0) (es : List (K × V)) (k : K) → IsAscending cmp es → P k None →
+      ((q : K) → (q ≡ k → ⊥) → P q (at cmp es q)) → (q : K) → P q (at cmp (without cmp es k) q)
   without_elim P es k up here rest q = go (same_or cmp exact k q)
     where
       go : (q ≡ k) ⊎ (cmp q k ≢ Equal) → P q (at cmp (without cmp es k) q)
-      go (inl e) = subst (λ (x : K). P x (at cmp (without cmp es k) x)) (sym e) (subst (P k) (sym (laws.at_without cmp o es k up)) here)
-      go (inr ne) = subst (P q) (sym (laws.at_without_other cmp o es k q up ne)) (rest q (λ e. ne (subst (λ (x : K). cmp x k ≡ Equal) (sym e) (tied_itself o k))))
+      go (inl e) = subst (λ (x : K). P x (at cmp (without cmp es k) x)) (sym e)
+          (subst (P k) (sym (laws.at_without cmp o es k up)) here)
+      go (inr ne) = subst (P q) (sym (laws.at_without_other cmp o es k q up ne))
+          (rest q (λ e. ne (subst (λ (x : K). cmp x k ≡ Equal) (sym e) (tied_itself o k))))

@@ -58,48 +58,64 @@ record StepFits (s : Scenario) (before : List Noted) (n : Noted) : Type 0 where
 abbrev AllFit : Scenario → List Noted → List Noted → Type 0
 AllFit s before ns = (m : NodeId) → OwnRecordsFit m (is_member s.nodes m) (recs_of m before) (recs_of m ns)
 
-module _ (s : Scenario) (test : List Noted → Noted → Bool) (one : (before : List Noted) (n : Noted) → StepFits s before n → test before n ≡ true) where
-  head_fits : (before : List Noted) (n : Noted) (ns : List Noted) → AllFit s before (n ∷ ns) → (m : NodeId) → n.node ≡ Some m → OwnRecordFits m (is_member s.nodes m) (recs_of m before) n.rec
+module _ (s : Scenario) (test : List Noted → Noted → Bool) (one : (before : List Noted) (n : Noted) → StepFits s before n →
+    test before n ≡ true) where
+  head_fits : (before : List Noted) (n : Noted) (ns : List Noted) → AllFit s before (n ∷ ns) → (m : NodeId) →
+      n.node ≡ Some m → OwnRecordFits m (is_member s.nodes m) (recs_of m before) n.rec
   head_fits before n ns all m is =
-      (subst (λ (c : Bool). OwnRecordsFit m (is_member s.nodes m) (recs_of m before) ((if c then n.rec ∷ [] else []) ++ recs_of m ns)) (ap (is_node m) is ∙ same_node_itself m) (all m)).0
+      (subst (λ (c : Bool). OwnRecordsFit m (is_member s.nodes m) (recs_of m before)
+      ((if c then n.rec ∷ [] else []) ++ recs_of m ns)) (ap (is_node m) is ∙ same_node_itself m) (all m)).0
 
   rest_fits : (before : List Noted) (n : Noted) (ns : List Noted) → AllFit s before (n ∷ ns) → AllFit s (before ++ n ∷ []) ns
   rest_fits before n ns all m =
-      subst (λ (rs : List Rec). OwnRecordsFit m (is_member s.nodes m) rs (recs_of m ns)) (sym (recs_parts m before (n ∷ []))) (by (is_node m n.node) (all m))
+      subst (λ (rs : List Rec). OwnRecordsFit m (is_member s.nodes m) rs (recs_of m ns)) (sym (recs_parts m before (n ∷ [])))
+      (by (is_node m n.node) (all m))
     where
-      by : (c : Bool) → OwnRecordsFit m (is_member s.nodes m) (recs_of m before) ((if c then n.rec ∷ [] else []) ++ recs_of m ns) → OwnRecordsFit m (is_member s.nodes m) (recs_of m before ++ ((if c then n.rec ∷ [] else []) ++ [])) (recs_of m ns)
+      by : (c : Bool) → OwnRecordsFit m (is_member s.nodes m) (recs_of m before)
+          ((if c then n.rec ∷ [] else []) ++ recs_of m ns) →
+          OwnRecordsFit m (is_member s.nodes m) (recs_of m before ++ ((if c then n.rec ∷ [] else []) ++ [])) (recs_of m ns)
       by true fits = fits.1
-      by false fits = subst (λ (rs : List Rec). OwnRecordsFit m (is_member s.nodes m) rs (recs_of m ns)) (sym (append_none (recs_of m before))) fits
+      by false fits = subst (λ (rs : List Rec). OwnRecordsFit m (is_member s.nodes m) rs (recs_of m ns))
+          (sym (append_none (recs_of m before))) fits
 
-  each_passes : (before ns : List Noted) → AllFit s before ns → AreOwnOrLost before ns → AreOwn before before → each_from test before ns ≡ true
+  each_passes : (before ns : List Noted) → AllFit s before ns → AreOwnOrLost before ns → AreOwn before before →
+      each_from test before ns ≡ true
   each_passes before [] all own earlier = refl
   each_passes before (n ∷ ns) all own earlier =
       rw (one before n (record { own = head_fits before n ns all; here = own.0; earlier = earlier }))
       (each_passes (before ++ n ∷ []) ns (rest_fits before n ns all) own.1
       (each_both (λ (x : Noted). IsOwnOrLost (before ++ n ∷ []) x.node x.rec) before (n ∷ [])
-      (each_change (λ (x : Noted). IsOwnOrLost before x.node x.rec) (λ (x : Noted). IsOwnOrLost (before ++ n ∷ []) x.node x.rec) before (λ x there. own_later before (n ∷ []) x.node x.rec there) earlier)
+      (each_change (λ (x : Noted). IsOwnOrLost before x.node x.rec)
+      (λ (x : Noted). IsOwnOrLost (before ++ n ∷ []) x.node x.rec) before
+      (λ x there. own_later before (n ∷ []) x.node x.rec there) earlier)
       (own_later before (n ∷ []) n.node n.rec own.0, tt)))
 
 -- Decisions.
 
 -- what a node has decided stands in its own records
-decided_by : (node : NodeId) (tx : TxId) (recs : List Noted) → decisions tx (recs_of node recs) ≡ [] → is_decided_by node tx recs ≡ false
+decided_by : (node : NodeId) (tx : TxId) (recs : List Noted) → decisions tx (recs_of node recs) ≡ [] →
+    is_decided_by node tx recs ≡ false
 decided_by node tx [] none = refl
 decided_by node tx (n ∷ ns) none = by (λ rest. decided_by node tx ns rest) (is_node node n.node) n.rec none
   where
-    by : (decisions tx (recs_of node ns) ≡ [] → is_decided_by node tx ns ≡ false) → (c : Bool) (r : Rec) → decisions tx ((if c then r ∷ [] else []) ++ recs_of node ns) ≡ [] → ((c && is_decide_in tx r) || is_decided_by node tx ns) ≡ false
+    by : (decisions tx (recs_of node ns) ≡ [] → is_decided_by node tx ns ≡ false) → (c : Bool) (r : Rec) →
+        decisions tx ((if c then r ∷ [] else []) ++ recs_of node ns) ≡ [] →
+        ((c && is_decide_in tx r) || is_decided_by node tx ns) ≡ false
     by goes false r none_here = goes none_here
     by goes true (note.Decide u commit) none_here = one (same_tx u tx) none_here
       where
-        one : (b : Bool) → (if b then commit ∷ [] else []) ++ decisions tx (recs_of node ns) ≡ [] → (b || is_decided_by node tx ns) ≡ false
+        one : (b : Bool) → (if b then commit ∷ [] else []) ++ decisions tx (recs_of node ns) ≡ [] →
+            (b || is_decided_by node tx ns) ≡ false
         one true some = absurd (cc (some))
         one false some = goes some
     by goes true _ none_here = goes none_here
 
-decides_first : (s : Scenario) (before : List Noted) (n : Noted) → StepFits s before n → is_first_by_starter before n.node n.rec ≡ true
+decides_first : (s : Scenario) (before : List Noted) (n : Noted) → StepFits s before n →
+    is_first_by_starter before n.node n.rec ≡ true
 decides_first s before n f = by n.rec f.own
   where
-    by : (r : Rec) → ((m : NodeId) → n.node ≡ Some m → OwnRecordFits m (is_member s.nodes m) (recs_of m before) r) → is_first_by_starter before n.node r ≡ true
+    by : (r : Rec) → ((m : NodeId) → n.node ≡ Some m → OwnRecordFits m (is_member s.nodes m) (recs_of m before) r) →
+        is_first_by_starter before n.node r ≡ true
     by (note.Decide tx commit) own = who n.node refl
       where
         who : (o : Option NodeId) → n.node ≡ o → (not (is_node tx.node o) || not (is_decided_by tx.node tx before)) ≡ true
@@ -111,10 +127,12 @@ decides_first s before n f = by n.rec f.own
             mine true same =
                 let me = same_node_true tx.node m same in
                 let none = own m is me in
-                ap not (decided_by tx.node tx before (subst (λ (x : NodeId). decisions tx (recs_of x before) ≡ []) (sym me) none))
+                ap not (decided_by tx.node tx before (subst (λ (x : NodeId). decisions tx (recs_of x before) ≡ [])
+                (sym me) none))
     by _ own = refl
 
-decides_own : (s : Scenario) (before : List Noted) (n : Noted) → StepFits s before n → is_by_starter_or_after_loss before n.node n.rec ≡ true
+decides_own : (s : Scenario) (before : List Noted) (n : Noted) → StepFits s before n →
+    is_by_starter_or_after_loss before n.node n.rec ≡ true
 decides_own s before n f = by n.rec f.here
   where
     by : (r : Rec) → IsOwnOrLost before n.node r → is_by_starter_or_after_loss before n.node r ≡ true
@@ -123,11 +141,13 @@ decides_own s before n f = by n.rec f.here
     by _ own = refl
 
 -- where the starter is not lost, all decisions are its own
-none_committed : (recs : List Noted) (tx : TxId) → is_lost recs tx.node ≡ false → (xs : List Noted) → AreOwn recs xs → decisions tx (recs_of tx.node xs) ≡ [] → is_committed_before xs tx ≡ false
+none_committed : (recs : List Noted) (tx : TxId) → is_lost recs tx.node ≡ false → (xs : List Noted) → AreOwn recs xs →
+    decisions tx (recs_of tx.node xs) ≡ [] → is_committed_before xs tx ≡ false
 none_committed recs tx lives [] own none = refl
 none_committed recs tx lives (n ∷ ns) own none = by (λ less. none_committed recs tx lives ns own.1 less) n.rec n.node own.0 none
   where
-    rest : (decisions tx (recs_of tx.node ns) ≡ [] → is_committed_before ns tx ≡ false) → (c : Bool) (r : Rec) → decisions tx ((if c then r ∷ [] else []) ++ recs_of tx.node ns) ≡ [] → is_committed_before ns tx ≡ false
+    rest : (decisions tx (recs_of tx.node ns) ≡ [] → is_committed_before ns tx ≡ false) → (c : Bool) (r : Rec) →
+        decisions tx ((if c then r ∷ [] else []) ++ recs_of tx.node ns) ≡ [] → is_committed_before ns tx ≡ false
     rest goes true r none_here = goes (last (decision_in tx r) (decisions tx (recs_of tx.node ns)) none_here)
       where
         last : (xs ys : List Bool) → xs ++ ys ≡ [] → ys ≡ []
@@ -135,10 +155,13 @@ none_committed recs tx lives (n ∷ ns) own none = by (λ less. none_committed r
         last (x ∷ xs) ys none_here = absurd (cc (none_here))
     rest goes false r none_here = goes none_here
 
-    by : (decisions tx (recs_of tx.node ns) ≡ [] → is_committed_before ns tx ≡ false) → (r : Rec) (who : Option NodeId) → IsOwnOrLost recs who r → decisions tx ((if is_node tx.node who then r ∷ [] else []) ++ recs_of tx.node ns) ≡ [] → (is_commit_in tx r || is_committed_before ns tx) ≡ false
+    by : (decisions tx (recs_of tx.node ns) ≡ [] → is_committed_before ns tx ≡ false) → (r : Rec) (who : Option NodeId) →
+        IsOwnOrLost recs who r → decisions tx ((if is_node tx.node who then r ∷ [] else []) ++ recs_of tx.node ns) ≡ [] →
+        (is_commit_in tx r || is_committed_before ns tx) ≡ false
     by goes (note.Decide u commit) who is none_here = mine (same_tx u tx) refl is
       where
-        mine : (b : Bool) → same_tx u tx ≡ b → (who ≡ Some u.node) ⊎ (is_lost recs u.node ≡ true) → ((b && commit) || is_committed_before ns tx) ≡ false
+        mine : (b : Bool) → same_tx u tx ≡ b → (who ≡ Some u.node) ⊎ (is_lost recs u.node ≡ true) →
+            ((b && commit) || is_committed_before ns tx) ≡ false
         mine false apart is = rest goes (is_node tx.node who) (note.Decide u commit) none_here
         mine true same (inr lost) =
             let one = same_tx_true u tx same in
@@ -146,15 +169,22 @@ none_committed recs tx lives (n ∷ ns) own none = by (λ less. none_committed r
             absurd (cc (gone, lives))
         mine true same (inl own) =
             let one = same_tx_true u tx same in
-            let there : is_node tx.node who ≡ true = ap (is_node tx.node) own ∙ ap (λ (t : TxId). same_node tx.node t.node) one ∙ same_node_itself tx.node in
-            let some = subst (λ (c : Bool). decisions tx ((if c then note.Decide u commit ∷ [] else []) ++ recs_of tx.node ns) ≡ []) there none_here in
-            absurd (let first : (if same_tx u tx then commit ∷ [] else []) ++ decisions tx (recs_of tx.node ns) ≡ commit ∷ decisions tx (recs_of tx.node ns) = ap (λ (b : Bool). (if b then commit ∷ [] else []) ++ decisions tx (recs_of tx.node ns)) same in let empty = sym first ∙ some in cc (empty))
+            let there : is_node tx.node who ≡ true = ap (is_node tx.node) own
+            ∙ ap (λ (t : TxId). same_node tx.node t.node) one ∙ same_node_itself tx.node in
+            let some = subst (λ (c : Bool). decisions tx ((if c then note.Decide u commit ∷ [] else []) ++ recs_of tx.node ns)
+            ≡ []) there none_here in
+            absurd (let first : (if same_tx u tx then commit ∷ [] else []) ++ decisions tx (recs_of tx.node ns) ≡ commit
+            ∷ decisions tx (recs_of tx.node ns) =
+            ap (λ (b : Bool). (if b then commit ∷ [] else []) ++ decisions tx (recs_of tx.node ns)) same in let empty =
+            sym first ∙ some in cc (empty))
     by goes r who is none_here = rest goes (is_node tx.node who) r none_here
 
 stands : (s : Scenario) (before : List Noted) (n : Noted) → StepFits s before n → stands_or_is_lost before n.rec ≡ true
 stands s before n f = by n.rec f.here f.own
   where
-    by : (r : Rec) → IsOwnOrLost before n.node r → ((m : NodeId) → n.node ≡ Some m → OwnRecordFits m (is_member s.nodes m) (recs_of m before) r) → stands_or_is_lost before r ≡ true
+    by : (r : Rec) → IsOwnOrLost before n.node r →
+        ((m : NodeId) → n.node ≡ Some m → OwnRecordFits m (is_member s.nodes m) (recs_of m before) r) →
+        stands_or_is_lost before r ≡ true
     by (note.Decide tx false) (inr lost) own = or_second (not (is_committed_before before tx)) (is_lost before tx.node) lost
     by (note.Decide tx false) (inl mine) own = lives (is_lost before tx.node) refl
       where
@@ -166,46 +196,63 @@ stands s before n f = by n.rec f.here f.own
 
 -- Starts.
 
-not_started : (tx : TxId) (r : Rec) (c : Bool) (rs : List Rec) → version_in tx r ≡ [] → versions tx rs ≡ versions tx ((if c then r ∷ [] else []) ++ rs)
+not_started : (tx : TxId) (r : Rec) (c : Bool) (rs : List Rec) → version_in tx r ≡ [] →
+    versions tx rs ≡ versions tx ((if c then r ∷ [] else []) ++ rs)
 not_started tx r true rs none = sym (ap (λ (vs : List TopVer). vs ++ versions tx rs) none)
 not_started tx r false rs none = refl
 
-some_versions : (tx : TxId) (recs xs : List Noted) → AreOwn recs xs → flat_map (λ (n : Noted). start_noted tx n.rec) xs ≡ versions tx (recs_of tx.node xs)
+some_versions : (tx : TxId) (recs xs : List Noted) → AreOwn recs xs → flat_map (λ (n : Noted). start_noted tx n.rec) xs
+    ≡ versions tx (recs_of tx.node xs)
 some_versions tx recs [] own = refl
 some_versions tx recs (n ∷ ns) own = by n.rec n.node own.0 (some_versions tx recs ns own.1)
   where
-    by : (r : Rec) (who : Option NodeId) → IsOwnOrLost recs who r → flat_map (λ (x : Noted). start_noted tx x.rec) ns ≡ versions tx (recs_of tx.node ns)
-        → start_noted tx r ++ flat_map (λ (x : Noted). start_noted tx x.rec) ns ≡ versions tx ((if is_node tx.node who then r ∷ [] else []) ++ recs_of tx.node ns)
+    by : (r : Rec) (who : Option NodeId) → IsOwnOrLost recs who r → flat_map (λ (x : Noted). start_noted tx x.rec) ns
+        ≡ versions tx (recs_of tx.node ns)
+        → start_noted tx r ++ flat_map (λ (x : Noted). start_noted tx x.rec) ns ≡ versions tx
+        ((if is_node tx.node who then r ∷ [] else []) ++ recs_of tx.node ns)
     by (note.Start u top) who is rest = mine (same_tx u tx) refl
       where
-        other : (c : Bool) → same_tx u tx ≡ false → versions tx (recs_of tx.node ns) ≡ versions tx ((if c then note.Start u top ∷ [] else []) ++ recs_of tx.node ns)
+        other : (c : Bool) → same_tx u tx ≡ false →
+            versions tx (recs_of tx.node ns) ≡ versions tx ((if c then note.Start u top ∷ [] else []) ++ recs_of tx.node ns)
         other true apart = rw apart refl
         other false apart = refl
 
-        mine : (b : Bool) → same_tx u tx ≡ b → (if b then top ∷ [] else []) ++ flat_map (λ (x : Noted). start_noted tx x.rec) ns ≡ versions tx ((if is_node tx.node who then note.Start u top ∷ [] else []) ++ recs_of tx.node ns)
+        mine : (b : Bool) → same_tx u tx ≡ b → (if b then top ∷ [] else []) ++ flat_map (λ (x : Noted). start_noted tx x.rec)
+            ns ≡ versions tx ((if is_node tx.node who then note.Start u top ∷ [] else []) ++ recs_of tx.node ns)
         mine true same =
             let one = same_tx_true u tx same in
-            let there : is_node tx.node who ≡ true = ap (is_node tx.node) is ∙ ap (λ (t : TxId). same_node tx.node t.node) one ∙ same_node_itself tx.node in
+            let there : is_node tx.node who ≡ true = ap (is_node tx.node) is ∙ ap (λ (t : TxId). same_node tx.node t.node) one
+            ∙ same_node_itself tx.node in
             rw (there, same) (ap (λ (vs : List TopVer). top ∷ vs) rest)
         mine false apart = rest ∙ other (is_node tx.node who) apart
     by r who is rest = rest ∙ not_started tx r (is_node tx.node who) (recs_of tx.node ns) refl
 
-opened_there : (node : NodeId) (top : TopVer) (recs : List Noted) → list_any (is_opened_in top) (recs_of node recs) ≡ list_any (has_opened node top) recs
+opened_there : (node : NodeId) (top : TopVer) (recs : List Noted) → list_any (is_opened_in top) (recs_of node recs) ≡ list_any
+    (has_opened node top) recs
 opened_there node top [] = refl
 opened_there node top (n ∷ ns) = by (is_node node n.node) (opened_there node top ns)
   where
-    by : (c : Bool) → list_any (is_opened_in top) (recs_of node ns) ≡ list_any (has_opened node top) ns → list_any (is_opened_in top) ((if c then n.rec ∷ [] else []) ++ recs_of node ns) ≡ ((c && is_opened_in top n.rec) || list_any (has_opened node top) ns)
+    by : (c : Bool) → list_any (is_opened_in top) (recs_of node ns) ≡ list_any (has_opened node top) ns →
+        list_any (is_opened_in top) ((if c then n.rec ∷ [] else []) ++ recs_of node ns) ≡ ((c && is_opened_in top n.rec)
+        || list_any (has_opened node top) ns)
     by true rest = ap (λ (b : Bool). is_opened_in top n.rec || b) rest
     by false rest = rest
 
-starts_open : (s : Scenario) (before : List Noted) (n : Noted) → StepFits s before n → is_start_at_open s before n.node n.rec ≡ true
+starts_open : (s : Scenario) (before : List Noted) (n : Noted) → StepFits s before n → is_start_at_open s before n.node n.rec
+    ≡ true
 starts_open s before n f = by n.rec f.here f.own
   where
-    by : (r : Rec) → IsOwnOrLost before n.node r → ((m : NodeId) → n.node ≡ Some m → OwnRecordFits m (is_member s.nodes m) (recs_of m before) r) → is_start_at_open s before n.node r ≡ true
+    by : (r : Rec) → IsOwnOrLost before n.node r →
+        ((m : NodeId) → n.node ≡ Some m → OwnRecordFits m (is_member s.nodes m) (recs_of m before) r) →
+        is_start_at_open s before n.node r ≡ true
     by (note.Start tx top) mine own =
         let fits = own tx.node mine in
-        let none : version_of_tx before tx ≡ None = ap (λ (vs : List TopVer). slice_get vs 0) (some_versions tx before before f.earlier ∙ fits.is_latest tx refl refl (same_number tx.number)) in
-        let free : was_open s before tx.node top ≡ true = sym (ap (λ (b : Bool). (same_top top first_top && is_member s.nodes tx.node) || b) (opened_there tx.node top before)) ∙ fits.is_open in
+        let none : version_of_tx before tx ≡ None =
+        ap (λ (vs : List TopVer). slice_get vs 0) (some_versions tx before before f.earlier
+        ∙ fits.is_latest tx refl refl (same_number tx.number)) in
+        let free : was_open s before tx.node top ≡ true =
+        sym (ap (λ (b : Bool). (same_top top first_top && is_member s.nodes tx.node) || b)
+        (opened_there tx.node top before)) ∙ fits.is_open in
         rw (mine, same_node_itself tx.node, none, free) refl
       where
         same_number : (k : ℕ) → k ≤ k
@@ -213,13 +260,15 @@ starts_open s before n f = by n.rec f.here f.own
     by _ mine own = refl
 
 -- those that have started before have lower numbers
-lower : (tx : TxId) (recs xs : List Noted) → AreOwn recs xs → ((u : TxId) → u.node ≡ tx.node → u.session ≡ tx.session → tx.number ≤ u.number → versions u (recs_of tx.node xs) ≡ []) → list_all (λ (n : Noted). is_lower_start tx n.rec) xs ≡ true
+lower : (tx : TxId) (recs xs : List Noted) → AreOwn recs xs → ((u : TxId) → u.node ≡ tx.node → u.session ≡ tx.session →
+    tx.number ≤ u.number → versions u (recs_of tx.node xs) ≡ []) → list_all (λ (n : Noted). is_lower_start tx n.rec) xs ≡ true
 lower tx recs [] own latest = refl
 lower tx recs (n ∷ ns) own latest =
     both_pass (is_lower_start tx n.rec) (list_all (λ (x : Noted). is_lower_start tx x.rec) ns) (first n.rec n.node own.0 latest)
     (lower tx recs ns own.1 (λ u node session number. last (is_node tx.node n.node) u (latest u node session number)))
   where
-    last : (c : Bool) (u : TxId) → versions u ((if c then n.rec ∷ [] else []) ++ recs_of tx.node ns) ≡ [] → versions u (recs_of tx.node ns) ≡ []
+    last : (c : Bool) (u : TxId) → versions u ((if c then n.rec ∷ [] else []) ++ recs_of tx.node ns) ≡ [] →
+        versions u (recs_of tx.node ns) ≡ []
     last true u none = parts (version_in u n.rec) (versions u (recs_of tx.node ns)) none
       where
         parts : (vs ws : List TopVer) → vs ++ ws ≡ [] → ws ≡ []
@@ -227,24 +276,34 @@ lower tx recs (n ∷ ns) own latest =
         parts (v ∷ vs) ws none_here = absurd (cc (none_here))
     last false u none = none
 
-    first : (r : Rec) (who : Option NodeId) → IsOwnOrLost recs who r → ((u : TxId) → u.node ≡ tx.node → u.session ≡ tx.session → tx.number ≤ u.number → versions u ((if is_node tx.node who then r ∷ [] else []) ++ recs_of tx.node ns) ≡ []) → is_lower_start tx r ≡ true
-    first (note.Start u top) who is all = same (same_node u.node tx.node) refl (nat_eq u.session tx.session) refl (nat_lt u.number tx.number) refl
+    first : (r : Rec) (who : Option NodeId) → IsOwnOrLost recs who r →
+        ((u : TxId) → u.node ≡ tx.node → u.session ≡ tx.session → tx.number ≤ u.number →
+        versions u ((if is_node tx.node who then r ∷ [] else []) ++ recs_of tx.node ns) ≡ []) → is_lower_start tx r ≡ true
+    first (note.Start u top) who is all = same (same_node u.node tx.node) refl (nat_eq u.session tx.session) refl
+        (nat_lt u.number tx.number) refl
       where
-        same : (a : Bool) → same_node u.node tx.node ≡ a → (b : Bool) → nat_eq u.session tx.session ≡ b → (c : Bool) → nat_lt u.number tx.number ≡ c → (not (a && b) || c) ≡ true
+        same : (a : Bool) → same_node u.node tx.node ≡ a → (b : Bool) → nat_eq u.session tx.session ≡ b → (c : Bool) →
+            nat_lt u.number tx.number ≡ c → (not (a && b) || c) ≡ true
         same false other b is_b c is_c = refl
         same true node false other c is_c = refl
         same true node true session true less = refl
         same true node true session false high =
             let at_node = same_node_true u.node tx.node node in
-            let there : is_node tx.node who ≡ true = ap (is_node tx.node) is ∙ ap (λ (m : NodeId). same_node tx.node m) at_node ∙ same_node_itself tx.node in
-            let none = subst (λ (c : Bool). versions u ((if c then note.Start u top ∷ [] else []) ++ recs_of tx.node ns) ≡ []) there (all u at_node (grind (arith, nat_tests, session)) (grind (arith, nat_tests, high))) in
-            absurd (let some : (if same_tx u u then top ∷ [] else []) ++ versions u (recs_of tx.node ns) ≡ top ∷ versions u (recs_of tx.node ns) = ap (λ (b : Bool). (if b then top ∷ [] else []) ++ versions u (recs_of tx.node ns)) (same_tx_itself u) in let empty = sym some ∙ none in cc (empty))
+            let there : is_node tx.node who ≡ true = ap (is_node tx.node) is
+            ∙ ap (λ (m : NodeId). same_node tx.node m) at_node ∙ same_node_itself tx.node in
+            let none = subst (λ (c : Bool). versions u ((if c then note.Start u top ∷ [] else []) ++ recs_of tx.node ns) ≡ [])
+            there (all u at_node (grind (arith, nat_tests, session)) (grind (arith, nat_tests, high))) in
+            absurd (let some : (if same_tx u u then top ∷ [] else []) ++ versions u (recs_of tx.node ns) ≡ top ∷ versions u
+            (recs_of tx.node ns) = ap (λ (b : Bool). (if b then top ∷ [] else []) ++ versions u (recs_of tx.node ns))
+            (same_tx_itself u) in let empty = sym some ∙ none in cc (empty))
     first _ who is all = refl
 
 rises : (s : Scenario) (before : List Noted) (n : Noted) → StepFits s before n → starts_above before n.rec ≡ true
 rises s before n f = by n.rec f.here f.own
   where
-    by : (r : Rec) → IsOwnOrLost before n.node r → ((m : NodeId) → n.node ≡ Some m → OwnRecordFits m (is_member s.nodes m) (recs_of m before) r) → starts_above before r ≡ true
+    by : (r : Rec) → IsOwnOrLost before n.node r →
+        ((m : NodeId) → n.node ≡ Some m → OwnRecordFits m (is_member s.nodes m) (recs_of m before) r) →
+        starts_above before r ≡ true
     by (note.Start tx top) mine own = lower tx before before f.earlier (own tx.node mine).is_latest
     by _ mine own = refl
 
@@ -261,10 +320,13 @@ step_stays n p stays = by p.step stays
     by (step.Start cache) stays = refl
     by (step.Stop cache) stays = refl
 
-planned_stays : (n : NodeId) (plan : List PlanStep) (place : ℕ) → list_all (λ (p : PlanStep). not (is_loss p.step)) plan ≡ true → never_leaves n (event_of_planned (slice_get plan place)) ≡ true
+planned_stays : (n : NodeId) (plan : List PlanStep) (place : ℕ) → list_all (λ (p : PlanStep). not (is_loss p.step)) plan
+    ≡ true → never_leaves n (event_of_planned (slice_get plan place)) ≡ true
 planned_stays n [] place stays = refl
-planned_stays n (p ∷ ps) zero stays = step_stays n p (first_rest (not (is_loss p.step)) (list_all (λ (x : PlanStep). not (is_loss x.step)) ps) stays).0
-planned_stays n (p ∷ ps) (suc place) stays = planned_stays n ps place (first_rest (not (is_loss p.step)) (list_all (λ (x : PlanStep). not (is_loss x.step)) ps) stays).1
+planned_stays n (p ∷ ps) zero stays =
+    step_stays n p (first_rest (not (is_loss p.step)) (list_all (λ (x : PlanStep). not (is_loss x.step)) ps) stays).0
+planned_stays n (p ∷ ps) (suc place) stays =
+    planned_stays n ps place (first_rest (not (is_loss p.step)) (list_all (λ (x : PlanStep). not (is_loss x.step)) ps) stays).1
 
 module _ (n : NodeId) (plan : List PlanStep) (stays : list_all (λ (p : PlanStep). not (is_loss p.step)) plan ≡ true) where
   rec_stays : (r : Rec) → never_leaves n (events_in_rec plan r) ≡ true
@@ -274,7 +336,8 @@ module _ (n : NodeId) (plan : List PlanStep) (stays : list_all (λ (p : PlanStep
 
   recs_stay : (rs : List Rec) → never_leaves n (flat_map (events_in_rec plan) rs) ≡ true
   recs_stay [] = refl
-  recs_stay (r ∷ rs) = all_of_both (λ (e : TopoEvent). not (is_leave_of n e)) (events_in_rec plan r) (flat_map (events_in_rec plan) rs) (rec_stays r) (recs_stay rs)
+  recs_stay (r ∷ rs) = all_of_both (λ (e : TopoEvent). not (is_leave_of n e)) (events_in_rec plan r)
+      (flat_map (events_in_rec plan) rs) (rec_stays r) (recs_stay rs)
 
   group_stays : (rs : List Rec) (e : Event) → never_leaves n (events_of plan rs e) ≡ true
   group_stays rs (event.Minor id) = refl
@@ -282,7 +345,8 @@ module _ (n : NodeId) (plan : List PlanStep) (stays : list_all (λ (p : PlanStep
 
   groups_stay : (gs : List Group) → never_leaves n (flat_map (λ (g : Group). events_of plan g.recs g.event) gs) ≡ true
   groups_stay [] = refl
-  groups_stay (g ∷ gs) = all_of_both (λ (e : TopoEvent). not (is_leave_of n e)) (events_of plan g.recs g.event) (flat_map (λ (x : Group). events_of plan x.recs x.event) gs) (group_stays g.recs g.event) (groups_stay gs)
+  groups_stay (g ∷ gs) = all_of_both (λ (e : TopoEvent). not (is_leave_of n e)) (events_of plan g.recs g.event)
+      (flat_map (λ (x : Group). events_of plan x.recs x.event) gs) (group_stays g.recs g.event) (groups_stay gs)
 
 -- Of every run.
 
@@ -291,9 +355,11 @@ module _ (events : ℕ) (short : is_short_run events ≡ true) (j : Journal) (ru
   recs = noted j.scenario j.groups
 
   holds : StarterInvariant (length j.groups) (last_scene j)
-  holds = counted_holds StarterInvariant starters_lead (λ s is. starters_open s) j run.is_good (few events short j run) run.is_legal
+  holds = counted_holds StarterInvariant starters_lead (λ s is. starters_open s) j run.is_good (few events short j run)
+      run.is_legal
 
-  each_holds : (test : List Noted → Noted → Bool) → ((before : List Noted) (n : Noted) → StepFits j.scenario before n → test before n ≡ true) → each_from test [] recs ≡ true
+  each_holds : (test : List Noted → Noted → Bool) → ((before : List Noted) (n : Noted) → StepFits j.scenario before n →
+      test before n ≡ true) → each_from test [] recs ≡ true
   each_holds test one = each_passes j.scenario test one [] recs (λ m. (holds.nodes m).notes.fit) holds.own_or_lost tt
 
   pub decided_once_holds : decided_once j ≡ true
@@ -318,26 +384,35 @@ module _ (events : ℕ) (short : is_short_run events ≡ true) (j : Journal) (ru
       by false is = refl
       by true lost =
           let left = holds.losses n lost in
-          let told : never_leaves n (last_scene j).directory.events ≡ true = ap (never_leaves n) (directory_told events short j run) ∙ groups_stay n j.scenario.plan stays j.groups in
+          let told : never_leaves n (last_scene j).directory.events ≡ true =
+          ap (never_leaves n) (directory_told events short j run) ∙ groups_stay n j.scenario.plan stays j.groups in
           absurd (cc (left, told))
 
   -- what stands in all records stands in fewer
-  fewer_lost : (before : List Noted) (tx : TxId) (more : List Noted) → is_lost (before ++ more) tx.node ≡ false → is_lost before tx.node ≡ false
+  fewer_lost : (before : List Noted) (tx : TxId) (more : List Noted) → is_lost (before ++ more) tx.node ≡ false →
+      is_lost before tx.node ≡ false
   fewer_lost before tx more none = by (is_lost before tx.node) refl
     where
       by : (c : Bool) → is_lost before tx.node ≡ c → c ≡ false
       by false is = refl
       by true lost = let gone = lost_more before more tx.node lost in absurd (cc (gone, none))
 
-  stand_all : (before ns : List Noted) → ((n : NodeId) → is_lost (before ++ ns) n ≡ false) → each_from (λ (xs : List Noted) (n : Noted). stands_or_is_lost xs n.rec) before ns ≡ true → each_from (λ (xs : List Noted) (n : Noted). decision_stands xs n.rec) before ns ≡ true
+  stand_all : (before ns : List Noted) → ((n : NodeId) → is_lost (before ++ ns) n ≡ false) →
+      each_from (λ (xs : List Noted) (n : Noted). stands_or_is_lost xs n.rec) before ns ≡ true →
+      each_from (λ (xs : List Noted) (n : Noted). decision_stands xs n.rec) before ns ≡ true
   stand_all before [] none all = refl
   stand_all before (n ∷ ns) none all =
-      let both = first_rest (stands_or_is_lost before n.rec) (each_from (λ (xs : List Noted) (x : Noted). stands_or_is_lost xs x.rec) (before ++ n ∷ []) ns) all in
-      both_pass (decision_stands before n.rec) (each_from (λ (xs : List Noted) (x : Noted). decision_stands xs x.rec) (before ++ n ∷ []) ns) (one n.rec both.0)
-      (stand_all (before ++ n ∷ []) ns (λ m. subst (λ (rs : List Noted). is_lost rs m ≡ false) (sym (append_twice before (n ∷ []) ns)) (none m)) both.1)
+      let both = first_rest (stands_or_is_lost before n.rec)
+      (each_from (λ (xs : List Noted) (x : Noted). stands_or_is_lost xs x.rec) (before ++ n ∷ []) ns) all in
+      both_pass (decision_stands before n.rec) (each_from (λ (xs : List Noted) (x : Noted). decision_stands xs x.rec)
+      (before ++ n ∷ []) ns) (one n.rec both.0)
+      (stand_all (before ++ n ∷ []) ns (λ m. subst (λ (rs : List Noted). is_lost rs m ≡ false)
+      (sym (append_twice before (n ∷ []) ns)) (none m)) both.1)
     where
       one : (r : Rec) → stands_or_is_lost before r ≡ true → decision_stands before r ≡ true
-      one (note.Decide tx false) is = sym (or_none (not (is_committed_before before tx))) ∙ subst (λ (c : Bool). (not (is_committed_before before tx) || c) ≡ true) (fewer_lost before tx (n ∷ ns) (none tx.node)) is
+      one (note.Decide tx false) is = sym (or_none (not (is_committed_before before tx)))
+          ∙ subst (λ (c : Bool). (not (is_committed_before before tx) || c) ≡ true)
+          (fewer_lost before tx (n ∷ ns) (none tx.node)) is
       one (note.Decide tx true) is = refl
       one _ is = refl
 

@@ -116,9 +116,11 @@ pub record SessionFits (me : NodeId) (txs : List (TxId × TxEntry)) (session : �
   -- no answer is ready, and no sleep goes on, where no command is pending
   pub calm : d.pending ≡ None → (d.ready ≡ None) × (d.wake ≡ None)
   -- a session that has no command at work has a transaction that awaits nothing, or one with a fault
-  pub rests : is_busy d ≡ false → (tx : TxId) (e : TxEntry) → d.tx ≡ Some tx → at tx_cmp txs tx ≡ Some e → e.fault ≡ None → IsResting e
+  pub rests : is_busy d ≡ false → (tx : TxId) (e : TxEntry) → d.tx ≡ Some tx → at tx_cmp txs tx ≡ Some e → e.fault ≡ None →
+      IsResting e
   -- what waits for the start is at work
-  pub begins : (c : Command) → d.pending ≡ Some c → takes_version c ≡ true → (tx : TxId) (e : TxEntry) → d.tx ≡ Some tx → at tx_cmp txs tx ≡ Some e → e.state ≡ state.Idle → is_busy d ≡ true
+  pub begins : (c : Command) → d.pending ≡ Some c → takes_version c ≡ true → (tx : TxId) (e : TxEntry) → d.tx ≡ Some tx →
+      at tx_cmp txs tx ≡ Some e → e.state ≡ state.Idle → is_busy d ≡ true
 
 abbrev pub SessionFitsAt : NodeId → List (TxId × TxEntry) → ℕ → Option SessionState → Type 0
 SessionFitsAt me txs session None = Unit {0}
@@ -130,12 +132,14 @@ pub record IsUnnamed (recs : List Rec) (tx : TxId) : Type 0 where
   pub unstarted : versions tx recs ≡ []
 
 -- a node's transactions and sessions, by its records so far
-pub record StarterFits (me : NodeId) (recs : List Rec) (txs : List (TxId × TxEntry)) (session_states : List (ℕ × SessionState)) : Type 0 where
+pub record StarterFits (me : NodeId) (recs : List Rec) (txs : List (TxId × TxEntry))
+    (session_states : List (ℕ × SessionState)) : Type 0 where
   pub up : IsAscending tx_cmp txs
   pub entries : (tx : TxId) → EntryFitsAt me recs (at nat_cmp session_states tx.session) tx (at tx_cmp txs tx)
   pub sessions : (session : ℕ) → SessionFitsAt me txs session (at nat_cmp session_states session)
   -- a name that its session has not reached stands in no record
-  pub fresh : (tx : TxId) (d : SessionState) → tx.node ≡ me → at nat_cmp session_states tx.session ≡ Some d → d.started < tx.number → IsUnnamed recs tx
+  pub fresh : (tx : TxId) (d : SessionState) → tx.node ≡ me → at nat_cmp session_states tx.session ≡ Some d →
+      d.started < tx.number → IsUnnamed recs tx
 
 abbrev pub StarterInAct : List Rec → NodeState → Type 0
 StarterInAct past s = StarterFits s.me (past ++ s.noted) s.txs s.session_states

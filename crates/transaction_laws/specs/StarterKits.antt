@@ -64,37 +64,62 @@ pub record StarterKit (past : List Rec) (most : ℕ) (R : NodeState → NodeStat
   pub noted : (s : NodeState) (r : Rec) → StarterInAct past s → is_silent r ≡ true → R s (with_note s r)
   pub near_cache : (s : NodeState) (key : Key) (near : NearCache) → R s (with_near s key near)
   -- sessions
-  pub session_state : (s : NodeState) (session : ℕ) (d d2 : SessionState) → StarterInAct past s → session_state_of s session ≡ Some d → d2.tx ≡ d.tx → d2.started ≡ d.started → IsQuietChange d d2 → R s (with_session_state s session d2)
-  pub opened : (s : NodeState) (session : ℕ) (d : SessionState) (m : Mode) (deadline : Option ℕ) (block : Bool) → StarterInAct past s → session_state_of s session ≡ Some d → d.tx ≡ None → HasRoom most d
+  pub session_state : (s : NodeState) (session : ℕ) (d d2 : SessionState) → StarterInAct past s →
+      session_state_of s session ≡ Some d → d2.tx ≡ d.tx → d2.started ≡ d.started → IsQuietChange d d2 →
+      R s (with_session_state s session d2)
+  pub opened : (s : NodeState) (session : ℕ) (d : SessionState) (m : Mode) (deadline : Option ℕ) (block : Bool) →
+      StarterInAct past s → session_state_of s session ≡ Some d → d.tx ≡ None → HasRoom most d
       → R s (after_open_tx s (next_tx s session d.started) m deadline block)
-  pub started : (s : NodeState) (tx : TxId) (e : TxEntry) → StarterInAct past s → entry_of s tx ≡ Some e → e.state ≡ state.Idle → is_version_open s s.opened ≡ true → R s (with_note (with_entry s tx (record e { top = Some s.seen; state = state.Active })) (note.Start tx s.seen))
+  pub started : (s : NodeState) (tx : TxId) (e : TxEntry) → StarterInAct past s → entry_of s tx ≡ Some e →
+      e.state ≡ state.Idle → is_version_open s s.opened ≡ true →
+      R s (with_note (with_entry s tx (record e { top = Some s.seen; state = state.Active })) (note.Start tx s.seen))
   -- accesses
-  pub wrote : (s : NodeState) (tx : TxId) (top : TopVer) (a : IsActing s tx top) (key : Key) (new : Option (List ℕ)) → StarterInAct past s → has key_cmp a.entry.keys key ≡ true → R s (with_write s tx key new)
-  pub outcome : (s : NodeState) (tx : TxId) (top : TopVer) (a : IsActing s tx top) (x : Answer) → StarterInAct past s → R s (with_outcome s tx x)
-  pub touched : (s : NodeState) (tx : TxId) (top : TopVer) (a : IsActing s tx top) (key : Key) → StarterInAct past s → a.entry.mode ≡ mode.Optimistic → R s (with_touched s tx key)
-  pub hit : (s : NodeState) (tx : TxId) (top : TopVer) (a : IsActing s tx top) (key : Key) (n : NearEntry) → StarterInAct past s → a.entry.mode ≡ mode.Optimistic → R s (after_near_hit s tx key n)
-  pub asked_value : (s : NodeState) (tx : TxId) (top : TopVer) (a : IsActing s tx top) (key : Key) (primary : NodeId) (near : Bool) → StarterInAct past s → a.entry.mode ≡ mode.Optimistic → primary_at s key ≡ Some primary
+  pub wrote : (s : NodeState) (tx : TxId) (top : TopVer) (a : IsActing s tx top) (key : Key) (new : Option (List ℕ)) →
+      StarterInAct past s → has key_cmp a.entry.keys key ≡ true → R s (with_write s tx key new)
+  pub outcome : (s : NodeState) (tx : TxId) (top : TopVer) (a : IsActing s tx top) (x : Answer) → StarterInAct past s →
+      R s (with_outcome s tx x)
+  pub touched : (s : NodeState) (tx : TxId) (top : TopVer) (a : IsActing s tx top) (key : Key) → StarterInAct past s →
+      a.entry.mode ≡ mode.Optimistic → R s (with_touched s tx key)
+  pub hit : (s : NodeState) (tx : TxId) (top : TopVer) (a : IsActing s tx top) (key : Key) (n : NearEntry) →
+      StarterInAct past s → a.entry.mode ≡ mode.Optimistic → R s (after_near_hit s tx key n)
+  pub asked_value : (s : NodeState) (tx : TxId) (top : TopVer) (a : IsActing s tx top) (key : Key) (primary : NodeId)
+      (near : Bool) → StarterInAct past s → a.entry.mode ≡ mode.Optimistic → primary_at s key ≡ Some primary
       → R s (with_out (with_value_asked s tx key near) primary (msg.Get tx key near))
-  pub asked_lock : (s : NodeState) (tx : TxId) (top : TopVer) (a : IsActing s tx top) (key : Key) (primary : NodeId) → StarterInAct past s → a.entry.mode ≡ mode.Pessimistic → has key_cmp a.entry.keys key ≡ false → primary_at s key ≡ Some primary
-      → is_pending_access key (Some a.session_state) ≡ true → R s (with_out (with_lock_asked s tx key primary) primary (msg.Lock tx top key))
+  pub asked_lock : (s : NodeState) (tx : TxId) (top : TopVer) (a : IsActing s tx top) (key : Key) (primary : NodeId) →
+      StarterInAct past s → a.entry.mode ≡ mode.Pessimistic → has key_cmp a.entry.keys key ≡ false →
+      primary_at s key ≡ Some primary
+      → is_pending_access key (Some a.session_state) ≡ true →
+      R s (with_out (with_lock_asked s tx key primary) primary (msg.Lock tx top key))
   -- ends
-  pub prepared : (s : NodeState) (tx : TxId) (top : TopVer) (a : IsActing s tx top) (key : Key) (keys : List Key) → StarterInAct past s → a.entry.keys ≡ key ∷ keys
+  pub prepared : (s : NodeState) (tx : TxId) (top : TopVer) (a : IsActing s tx top) (key : Key) (keys : List Key) →
+      StarterInAct past s → a.entry.keys ≡ key ∷ keys
       → R s (after_send_prepares s tx top a.entry (primaries_at s (key ∷ keys)) (shares_of s.installed (key ∷ keys)))
-  pub decided : (s : NodeState) (tx : TxId) (e : TxEntry) (commit : Bool) → StarterInAct past s → entry_of s tx ≡ Some e → is_open e.state ≡ true → MayDecide commit e → R s (after_decide_of s tx commit (Some e))
-  pub failed : (s : NodeState) (tx : TxId) (e : TxEntry) (f : Fault) → StarterInAct past s → entry_of s tx ≡ Some e → is_open e.state ≡ true → R s (after_fail s tx f)
+  pub decided : (s : NodeState) (tx : TxId) (e : TxEntry) (commit : Bool) → StarterInAct past s → entry_of s tx ≡ Some e →
+      is_open e.state ≡ true → MayDecide commit e → R s (after_decide_of s tx commit (Some e))
+  pub failed : (s : NodeState) (tx : TxId) (e : TxEntry) (f : Fault) → StarterInAct past s → entry_of s tx ≡ Some e →
+      is_open e.state ≡ true → R s (after_fail s tx f)
   -- a holder of a lost primary's share has answered
-  pub backed : (s : NodeState) (from : NodeId) (tx : TxId) (primary : NodeId) (e : TxEntry) → StarterInAct past s → entry_of s tx ≡ Some e → R s (after_backup_finished_at_starter s from tx primary)
-  pub searched : (s : NodeState) (tx : TxId) (e : TxEntry) (search : Search) → StarterInAct past s → entry_of s tx ≡ Some e → waits_for_lock e.state ≡ true → R s (with_search s tx search)
-  pub edges_asked : (s : NodeState) (tx : TxId) (round : ℕ) (known : List TxId) (nodes : List NodeId) → R s (after_ask s tx round known nodes)
+  pub backed : (s : NodeState) (from : NodeId) (tx : TxId) (primary : NodeId) (e : TxEntry) → StarterInAct past s →
+      entry_of s tx ≡ Some e → R s (after_backup_finished_at_starter s from tx primary)
+  pub searched : (s : NodeState) (tx : TxId) (e : TxEntry) (search : Search) → StarterInAct past s → entry_of s tx ≡ Some e →
+      waits_for_lock e.state ≡ true → R s (with_search s tx search)
+  pub edges_asked : (s : NodeState) (tx : TxId) (round : ℕ) (known : List TxId) (nodes : List NodeId) →
+      R s (after_ask s tx round known nodes)
   -- a node is seen to leave: it is awaited no more
-  pub left : (s : NodeState) (tx : TxId) (e : TxEntry) (node : NodeId) → StarterInAct past s → entry_of s tx ≡ Some e → is_finishing e.state ≡ true → R s (after_left_decided s tx node e)
-  pub fault_kept : (s : NodeState) (tx : TxId) (e : TxEntry) → StarterInAct past s → entry_of s tx ≡ Some e → e.state ≡ state.RollingBack → e.awaited ≡ [] → e.backups ≡ [] → is_some e.fault ≡ true → R s (with_entry s tx (record e { state = state.Ended }))
-  pub closed : (s : NodeState) (tx : TxId) (e : TxEntry) (d d2 : SessionState) → StarterInAct past s → entry_of s tx ≡ Some e → is_open e.state ≡ false → e.awaited ≡ [] → e.backups ≡ [] → session_state_of s tx.session ≡ Some d → d2.tx ≡ None → d2.started ≡ d.started
+  pub left : (s : NodeState) (tx : TxId) (e : TxEntry) (node : NodeId) → StarterInAct past s → entry_of s tx ≡ Some e →
+      is_finishing e.state ≡ true → R s (after_left_decided s tx node e)
+  pub fault_kept : (s : NodeState) (tx : TxId) (e : TxEntry) → StarterInAct past s → entry_of s tx ≡ Some e →
+      e.state ≡ state.RollingBack → e.awaited ≡ [] → e.backups ≡ [] → is_some e.fault ≡ true →
+      R s (with_entry s tx (record e { state = state.Ended }))
+  pub closed : (s : NodeState) (tx : TxId) (e : TxEntry) (d d2 : SessionState) → StarterInAct past s →
+      entry_of s tx ≡ Some e → is_open e.state ≡ false → e.awaited ≡ [] → e.backups ≡ [] →
+      session_state_of s tx.session ≡ Some d → d2.tx ≡ None → d2.started ≡ d.started
       → R s (with_session_state (record s { txs = without tx_cmp s.txs tx }) tx.session d2)
 
 -- why a message in hand changes nothing at its transaction's starter
 abbrev pub IsIgnored : NodeState → Message → Type 0
-IsIgnored s (msg.LockOk tx key found) = (e : TxEntry) → entry_of s tx ≡ Some e → e.state ≡ state.Waiting → is_pending_access key (session_state_of s tx.session) ≡ true → ⊥
+IsIgnored s (msg.LockOk tx key found) = (e : TxEntry) → entry_of s tx ≡ Some e → e.state ≡ state.Waiting →
+    is_pending_access key (session_state_of s tx.session) ≡ true → ⊥
 IsIgnored s (msg.GetOk tx key found) = Unit {0}
 IsIgnored s (msg.Prepared tx) = (e : TxEntry) → entry_of s tx ≡ Some e → e.state ≡ state.Preparing → ⊥
 IsIgnored s (msg.PrepareFail tx why) = Unit {0}
@@ -103,12 +128,21 @@ IsIgnored s (msg.EdgesOk tx round act edges) = Unit {0}
 IsIgnored s m = ⊥
 
 -- the atoms that use up an answer in hand
-pub record AnswerKit (past : List Rec) (R : NodeState → NodeState → Type 0) (H : MessageInHand → NodeState → NodeState → Type 0) : Type 0 where
+pub record AnswerKit (past : List Rec) (R : NodeState → NodeState → Type 0) (H : MessageInHand → NodeState → NodeState →
+    Type 0) : Type 0 where
   pub after : (h : MessageInHand) (a b c : NodeState) → H h a b → R b c → H h a c
   pub ignored : (s : NodeState) (h : MessageInHand) → StarterInAct past s → IsIgnored s h.message → H h s s
-  pub lock_ok : (s : NodeState) (from : NodeId) (tx : TxId) (key : Key) (found : Found) (e : TxEntry) (d : SessionState) (c : Command) → StarterInAct past s → entry_of s tx ≡ Some e → e.state ≡ state.Waiting → session_state_of s tx.session ≡ Some d → d.pending ≡ Some c → is_pending_access key (Some d) ≡ true
-      → H (record { from = from; message = msg.LockOk tx key found }) s (with_found_read (with_tx_state s tx state.Active) tx key found c)
-  pub get_ok : (s : NodeState) (from : NodeId) (tx : TxId) (key : Key) (found : Found) (near : Bool) (e : TxEntry) (d : SessionState) (c : Command) → StarterInAct past s → entry_of s tx ≡ Some e → e.state ≡ state.Active → is_some e.getting ≡ true → session_state_of s tx.session ≡ Some d → d.pending ≡ Some c
-      → H (record { from = from; message = msg.GetOk tx key found }) s (with_found_read (after_keep_near (without_getting s tx) key near found) tx key found c)
-  pub prepared_by : (s : NodeState) (from : NodeId) (tx : TxId) (e : TxEntry) → StarterInAct past s → entry_of s tx ≡ Some e → e.state ≡ state.Preparing → H (record { from = from; message = msg.Prepared tx }) s (without_awaited s tx from)
-  pub finished_by : (s : NodeState) (from : NodeId) (tx : TxId) (e : TxEntry) → StarterInAct past s → entry_of s tx ≡ Some e → is_finishing e.state ≡ true → H (record { from = from; message = msg.Finished tx }) s (without_awaited s tx from)
+  pub lock_ok : (s : NodeState) (from : NodeId) (tx : TxId) (key : Key) (found : Found) (e : TxEntry) (d : SessionState)
+      (c : Command) → StarterInAct past s → entry_of s tx ≡ Some e → e.state ≡ state.Waiting →
+      session_state_of s tx.session ≡ Some d → d.pending ≡ Some c → is_pending_access key (Some d) ≡ true
+      → H (record { from = from; message = msg.LockOk tx key found }) s
+      (with_found_read (with_tx_state s tx state.Active) tx key found c)
+  pub get_ok : (s : NodeState) (from : NodeId) (tx : TxId) (key : Key) (found : Found) (near : Bool) (e : TxEntry)
+      (d : SessionState) (c : Command) → StarterInAct past s → entry_of s tx ≡ Some e → e.state ≡ state.Active →
+      is_some e.getting ≡ true → session_state_of s tx.session ≡ Some d → d.pending ≡ Some c
+      → H (record { from = from; message = msg.GetOk tx key found }) s
+      (with_found_read (after_keep_near (without_getting s tx) key near found) tx key found c)
+  pub prepared_by : (s : NodeState) (from : NodeId) (tx : TxId) (e : TxEntry) → StarterInAct past s → entry_of s tx ≡ Some e →
+      e.state ≡ state.Preparing → H (record { from = from; message = msg.Prepared tx }) s (without_awaited s tx from)
+  pub finished_by : (s : NodeState) (from : NodeId) (tx : TxId) (e : TxEntry) → StarterInAct past s → entry_of s tx ≡ Some e →
+      is_finishing e.state ≡ true → H (record { from = from; message = msg.Finished tx }) s (without_awaited s tx from)

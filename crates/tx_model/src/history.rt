@@ -28,7 +28,8 @@ pub struct BadRead {
 
 /// What the walk of a transaction found, once all records are walked; a call that is not answered is counted where it was done.
 pub fn entry_of(alloc: Global, walk: &mut Walk, tx: &TxId) -> Mem<CommitEntry>
-    ensures { IfOk result (λ entry. entry ≡ history.entry_from tx.now (history.walk_with_open_call tx.now walk.old walk.old.called)) }
+    ensures { IfOk result (λ entry. entry ≡ history.entry_from tx.now
+        (history.walk_with_open_call tx.now walk.old walk.old.called)) }
 {
     walk.count_called(tx)?;
     Ok(CommitEntry {

@@ -32,7 +32,8 @@ greater_back o x y h = o.antisymm y x ∙ ap ordering_reverse h
 
 pub In-filter : {A : Type 0} (p : A → Bool) (x : A) (xs : List A) → p x ≡ true → In x xs → In x (filter p xs)
 In-filter p x [] passes there = absurd there
-In-filter p x (y ∷ ys) passes (inl is) = subst (λ c. In x (if c then y ∷ filter p ys else filter p ys)) (sym (ap p (sym is) ∙ passes)) (inl is)
+In-filter p x (y ∷ ys) passes (inl is) = subst (λ c. In x (if c then y ∷ filter p ys else filter p ys))
+    (sym (ap p (sym is) ∙ passes)) (inl is)
 In-filter p x (y ∷ ys) passes (inr there) = by (p y) (In-filter p x ys passes there)
   where
     by : (c : Bool) → In x (filter p ys) → In x (if c then y ∷ filter p ys else filter p ys)
@@ -67,7 +68,8 @@ distinct_filter p (x ∷ xs) d = by (p x) (distinct_filter p xs d.1)
 pub In-without : (k x : NodeId) (xs : List NodeId) → In x xs → In x (without_member node_cmp xs k) ⊎ (x ≡ k)
 In-without k x [] there = absurd there
 In-without k x (y ∷ ys) there =
-    elim (node_cmp k y) as (λ r. node_cmp k y ≡ r → In x (match_ordering r (y ∷ ys) ys (y ∷ without_member node_cmp ys k)) ⊎ (x ≡ k)) [
+    elim (node_cmp k y) as (λ r. node_cmp k y ≡ r → In x (match_ordering r (y ∷ ys) ys (y ∷ without_member node_cmp ys k))
+    ⊎ (x ≡ k)) [
       | Less ↦ λ g. inl there
       | Equal ↦ λ g. first (exact_nodes k y g) there
       | Greater ↦ λ g. rest (λ here. In-without k x ys here) there
@@ -81,7 +83,8 @@ In-without k x (y ∷ ys) there =
     later (inl is) = inl (inr is)
     later (inr is) = inr is
 
-    rest : (In x ys → In x (without_member node_cmp ys k) ⊎ (x ≡ k)) → In x (y ∷ ys) → In x (y ∷ without_member node_cmp ys k) ⊎ (x ≡ k)
+    rest : (In x ys → In x (without_member node_cmp ys k) ⊎ (x ≡ k)) → In x (y ∷ ys) → In x (y ∷ without_member node_cmp ys k)
+        ⊎ (x ≡ k)
     rest more (inl is) = inl (inl is)
     rest more (inr here) = later (more here)
 
@@ -92,13 +95,18 @@ Rises (x ∷ xs) = ((y : NodeId) → In y xs → node_cmp x y ≡ Less) × Rises
 
 pub rises_distinct : (xs : List NodeId) → Rises xs → Distinct xs
 rises_distinct [] r = tt
-rises_distinct (x ∷ xs) r = (λ there. let less = r.0 x there in let tied = tied_itself node_total x in absurd (cc (less, tied)), rises_distinct xs r.1)
+rises_distinct (x ∷ xs) r = (
+  λ there. let less = r.0 x there in let tied = tied_itself node_total x in
+      absurd (cc (less, tied)),
+  rises_distinct xs r.1,
+)
 
 with-In : (k y : NodeId) (xs : List NodeId) → In y (with_member node_cmp xs k) → In y xs ⊎ (y ≡ k)
 with-In k y [] (inl is) = inr is
 with-In k y [] (inr there) = absurd there
 with-In k y (x ∷ xs) there =
-    elim (node_cmp k x) as (λ r. In y (match_ordering r (k ∷ x ∷ xs) (x ∷ xs) (x ∷ with_member node_cmp xs k)) → In y (x ∷ xs) ⊎ (y ≡ k)) [
+    elim (node_cmp k x) as (λ r. In y (match_ordering r (k ∷ x ∷ xs) (x ∷ xs) (x ∷ with_member node_cmp xs k)) → In y (x ∷ xs)
+    ⊎ (y ≡ k)) [
       | Less ↦ first
       | Equal ↦ λ here. inl here
       | Greater ↦ rest (λ here. with-In k y xs here)
@@ -112,14 +120,16 @@ with-In k y (x ∷ xs) there =
     later (inl is) = inl (inr is)
     later (inr is) = inr is
 
-    rest : (In y (with_member node_cmp xs k) → In y xs ⊎ (y ≡ k)) → In y (x ∷ with_member node_cmp xs k) → In y (x ∷ xs) ⊎ (y ≡ k)
+    rest : (In y (with_member node_cmp xs k) → In y xs ⊎ (y ≡ k)) → In y (x ∷ with_member node_cmp xs k) → In y (x ∷ xs)
+        ⊎ (y ≡ k)
     rest more (inl is) = inl (inl is)
     rest more (inr here) = later (more here)
 
 pub rises_with : (xs : List NodeId) (k : NodeId) → Rises xs → Rises (with_member node_cmp xs k)
 rises_with [] k r = (λ y there. absurd there, tt)
 rises_with (x ∷ xs) k r =
-    elim (node_cmp k x) as (λ c. node_cmp k x ≡ c → Rises (match_ordering c (k ∷ x ∷ xs) (x ∷ xs) (x ∷ with_member node_cmp xs k))) [
+    elim (node_cmp k x) as (λ c. node_cmp k x ≡ c →
+    Rises (match_ordering c (k ∷ x ∷ xs) (x ∷ xs) (x ∷ with_member node_cmp xs k))) [
       | Less ↦ λ g. (λ y there. below g y there, r)
       | Equal ↦ λ g. r
       | Greater ↦ λ g. (λ y there. above g y (with-In k y xs there), rises_with xs k r.1)
@@ -168,21 +178,25 @@ module _ {K V : Type 0} (cmp : K → K → Ordering) (o : IsTotalOrder cmp) (tes
   below_all k u [] below there = absurd there
   below_all k u (e ∷ es) below there = by (test e) (λ here. below_all k u es below.1 here) there
     where
-      by : (c : Bool) → (In u (keys_where test es) → cmp k u ≡ Less) → In u (if c then e.0 ∷ keys_where test es else keys_where test es) → cmp k u ≡ Less
+      by : (c : Bool) → (In u (keys_where test es) → cmp k u ≡ Less) →
+          In u (if c then e.0 ∷ keys_where test es else keys_where test es) → cmp k u ≡ Less
       by true more (inl is) = subst (λ z. cmp k z ≡ Less) (sym is) below.0
       by true more (inr here) = more here
       by false more here = more here
 
-  pub keys_tell : (es : List (K × V)) → IsAscending cmp es → (u : K) → In u (keys_where test es) → (v : V) → at cmp es u ≡ Some v → test (u, v) ≡ true
+  pub keys_tell : (es : List (K × V)) → IsAscending cmp es → (u : K) → In u (keys_where test es) → (v : V) →
+      at cmp es u ≡ Some v → test (u, v) ≡ true
   keys_tell [] up u there v is = absurd there
   keys_tell (e ∷ es) up u there v is = by (test e) refl (λ here at_u. keys_tell es up.1 u here v at_u) there
     where
-      later : (In u (keys_where test es) → at cmp es u ≡ Some v → test (u, v) ≡ true) → In u (keys_where test es) → test (u, v) ≡ true
+      later : (In u (keys_where test es) → at cmp es u ≡ Some v → test (u, v) ≡ true) → In u (keys_where test es) →
+          test (u, v) ≡ true
       later more here =
           let greater = less_back o e.0 u (below_all e.0 u es up.0 here) in
           more here (subst (λ r. match_ordering r None (Some e.1) (at cmp es u) ≡ Some v) greater is)
 
-      by : (c : Bool) → test e ≡ c → (In u (keys_where test es) → at cmp es u ≡ Some v → test (u, v) ≡ true) → In u (if c then e.0 ∷ keys_where test es else keys_where test es) → test (u, v) ≡ true
+      by : (c : Bool) → test e ≡ c → (In u (keys_where test es) → at cmp es u ≡ Some v → test (u, v) ≡ true) →
+          In u (if c then e.0 ∷ keys_where test es else keys_where test es) → test (u, v) ≡ true
       by true passes more (inl same) =
           let tied = subst (λ z. cmp u z ≡ Equal) same (tied_itself o u) in
           let at_e = subst (λ r. match_ordering r None (Some e.1) (at cmp es u) ≡ Some v) tied is in

@@ -1,4 +1,5 @@
--- Each act of a node keeps what is true of votes, and what the records tell of the node's transactions, as long as no message of
+-- Each act of a node keeps what is true of votes, and what the records tell of the node's transactions, as long as no message
+-- of
 -- topology is on its way.
 use Rattle.std.proofs.Common.{◌≡◌, ◌&&◌, List, [], ◌∷◌, ◌++◌, Bool, true, false, if◌then◌else◌, Option, Some, None, refl, sym, subst, ℕ}
 use Rattle.std.specs.List.{list_all}
@@ -44,7 +45,8 @@ all_aside : (rs : List Rec) → list_all is_silent rs ≡ true → list_all is_a
 all_aside [] is = refl
 all_aside (r ∷ rs) is = by (is_silent r) refl (all_aside rs) is
   where
-    by : (c : Bool) → is_silent r ≡ c → (list_all is_silent rs ≡ true → list_all is_aside rs ≡ true) → (c && list_all is_silent rs) ≡ true → list_all is_aside (r ∷ rs) ≡ true
+    by : (c : Bool) → is_silent r ≡ c → (list_all is_silent rs ≡ true → list_all is_aside rs ≡ true) →
+        (c && list_all is_silent rs) ≡ true → list_all is_aside (r ∷ rs) ≡ true
     by true first more rest = rw (silent_aside r first) (more rest)
     by false first more rest = absurd (cc (rest))
 
@@ -58,10 +60,13 @@ module _ (most : ℕ) (m : PartMap) (around : VoteAround) where
   B = VoteBoth
 
   leaves_near : (a b : NodeState) → LeavesStarters a b → StarterInAct around.mine a → StarterInAct around.mine b
-  leaves_near a b l n = subst (λ (f : StarterFace). StarterFits f.me (around.mine ++ f.noted) f.txs f.session_states) (sym l.face_is)
-      (subst (λ (rs : List Rec). StarterFits a.me rs a.txs a.session_states) (append_twice around.mine a.noted l.more) (starter_silent a.me (around.mine ++ a.noted) l.more a (all_aside l.more l.silent) n))
+  leaves_near a b l n = subst (λ (f : StarterFace). StarterFits f.me (around.mine ++ f.noted) f.txs f.session_states)
+      (sym l.face_is)
+      (subst (λ (rs : List Rec). StarterFits a.me rs a.txs a.session_states) (append_twice around.mine a.noted l.more)
+      (starter_silent a.me (around.mine ++ a.noted) l.more a (all_aside l.more l.silent) n))
 
-  near_backup_both : (s : NodeState) (from : NodeId) (tx : TxId) (primary : NodeId) → B s → B (after_backup_finished_at_starter s from tx primary)
+  near_backup_both : (s : NodeState) (from : NodeId) (tx : TxId) (primary : NodeId) → B s →
+      B (after_backup_finished_at_starter s from tx primary)
   near_backup_both s from tx primary b = go (entry_of s tx) refl
     where
       f : TxEntry → TxEntry
@@ -94,29 +99,84 @@ module _ (most : ℕ) (m : PartMap) (around : VoteAround) where
   Hand s from x = InHand (V m around s) s.me (record { from = from; message = x })
 
   message_both : (s : NodeState) (from : NodeId) (x : Message) → Hand s from x → B s → B (after_message s from x)
-  message_both s from (msg.Lock tx top key) h b = record { near = leaves_near s _ (lock_leaves s from tx top key) b.near; good = lock_good m around s from tx top key b.good }
-  message_both s from (msg.LockOk tx key found) h b = let goes = lock_ok_takes around.mine most (Keeps m around) _ (vote_kit m around most) (vote_answers m around) s from tx key found b.near in record { near = goes.0; good = goes.1 b.good h }
-  message_both s from (msg.Get tx key near) h b = record { near = leaves_near s _ (get_leaves s from tx key near) b.near; good = get_good m around s from tx key near b.good }
-  message_both s from (msg.GetOk tx key found) h b = let goes = get_ok_takes around.mine most (Keeps m around) _ (vote_kit m around most) (vote_answers m around) s from tx key found b.near in record { near = goes.0; good = goes.1 b.good h }
-  message_both s from (msg.Prepare tx top x shares wanted writes) h b = record { near = leaves_near s _ (prepare_leaves s from tx top x shares wanted writes) b.near; good = prepare_good m around s from tx top x shares wanted writes h b.good }
-  message_both s from (msg.Prepared tx) h b = let goes = prepared_takes around.mine most (Keeps m around) _ (vote_kit m around most) (vote_answers m around) s from tx b.near in record { near = goes.0; good = goes.1 b.good h }
-  message_both s from (msg.PrepareFail tx why) h b = let goes = prepare_fail_takes around.mine most (Keeps m around) _ (vote_kit m around most) (vote_answers m around) s from tx why b.near in record { near = goes.0; good = goes.1 b.good h }
-  message_both s from (msg.Finish tx commit) h b = record { near = leaves_near s _ (finish_leaves s from tx commit) b.near; good = finish_good m around s from tx commit h b.good }
+  message_both s from (msg.Lock tx top key) h b = record {
+    near = leaves_near s _ (lock_leaves s from tx top key) b.near;
+    good = lock_good m around s from tx top key b.good;
+  }
+  message_both s from (msg.LockOk tx key found) h b = let goes = lock_ok_takes around.mine most (Keeps m around) _
+      (vote_kit m around most) (vote_answers m around) s from tx key found b.near in
+      record { near = goes.0; good = goes.1 b.good h }
+  message_both s from (msg.Get tx key near) h b = record {
+    near = leaves_near s _ (get_leaves s from tx key near) b.near;
+    good = get_good m around s from tx key near b.good;
+  }
+  message_both s from (msg.GetOk tx key found) h b = let goes = get_ok_takes around.mine most (Keeps m around) _
+      (vote_kit m around most) (vote_answers m around) s from tx key found b.near in
+      record { near = goes.0; good = goes.1 b.good h }
+  message_both s from (msg.Prepare tx top x shares wanted writes) h b =
+      record {
+        near = leaves_near s _ (prepare_leaves s from tx top x shares wanted writes) b.near;
+        good =
+            prepare_good m around s from tx top x shares wanted writes h b.good;
+      }
+  message_both s from (msg.Prepared tx) h b = let goes = prepared_takes around.mine most (Keeps m around) _
+      (vote_kit m around most) (vote_answers m around) s from tx b.near in record { near = goes.0; good = goes.1 b.good h }
+  message_both s from (msg.PrepareFail tx why) h b = let goes = prepare_fail_takes around.mine most (Keeps m around) _
+      (vote_kit m around most) (vote_answers m around) s from tx why b.near in record { near = goes.0; good = goes.1 b.good h }
+  message_both s from (msg.Finish tx commit) h b = record {
+    near = leaves_near s _ (finish_leaves s from tx commit) b.near;
+    good = finish_good m around s from tx commit h b.good;
+  }
   message_both s from (msg.Finished tx) h b =
-      let goes = finished_takes around.mine most (Keeps m around) _ (vote_kit m around most) (vote_answers m around) s from tx b.near in
-      round_both (after_finished_at_starter s from tx) (λ (r : Round). record r { finishes = without_member finish_wait_cmp r.finishes (record { tx = tx; node = from }) }) (after_finished_at_starter s from tx).round (record { near = goes.0; good = goes.1 b.good h })
-  message_both s from (msg.Edges tx round asked) h b = record { near = leaves_near s _ (edges_leaves s from tx round asked) b.near; good = edges_good m around s from tx round asked b.good }
-  message_both s from (msg.EdgesOk tx round act edges) h b = let goes = edges_ok_takes around.mine most (Keeps m around) _ (vote_kit m around most) (vote_answers m around) s from tx round act edges b.near in record { near = goes.0; good = goes.1 b.good h }
-  message_both s from (msg.BackupPrepare tx top shares primary writes) h b = record { near = leaves_near s _ (backup_prepare_leaves s from tx top shares primary writes) b.near; good = backup_prepare_good m around s from tx top shares primary writes h.0 b.good }
-  message_both s from (msg.BackupPrepared tx) h b = record { near = leaves_near s _ (backup_prepared_leaves s from tx) b.near; good = backup_prepared_good m around s from tx h.0 b.good }
-  message_both s from (msg.BackupFinish tx primary commit) h b = record { near = leaves_near s _ (backup_finish_leaves s from tx primary commit) b.near; good = backup_finish_good m around s from tx primary commit h.0 b.good }
+      let goes = finished_takes around.mine most (Keeps m around) _ (vote_kit m around most) (vote_answers m around) s from tx
+      b.near in
+      round_both (after_finished_at_starter s from tx)
+      (λ (r : Round). record r { finishes = without_member finish_wait_cmp r.finishes (record { tx = tx; node = from }) })
+      (after_finished_at_starter s from tx).round (record { near = goes.0; good = goes.1 b.good h })
+  message_both s from (msg.Edges tx round asked) h b =
+      record {
+        near = leaves_near s _ (edges_leaves s from tx round asked) b.near;
+        good =
+            edges_good m around s from tx round asked b.good;
+      }
+  message_both s from (msg.EdgesOk tx round act edges) h b = let goes = edges_ok_takes around.mine most (Keeps m around) _
+      (vote_kit m around most) (vote_answers m around) s from tx round act edges b.near in
+      record { near = goes.0; good = goes.1 b.good h }
+  message_both s from (msg.BackupPrepare tx top shares primary writes) h b =
+      record {
+        near = leaves_near s _ (backup_prepare_leaves s from tx top shares primary writes) b.near;
+        good =
+            backup_prepare_good m around s from tx top shares primary writes h.0 b.good;
+      }
+  message_both s from (msg.BackupPrepared tx) h b = record {
+    near = leaves_near s _ (backup_prepared_leaves s from tx) b.near;
+    good = backup_prepared_good m around s from tx h.0 b.good;
+  }
+  message_both s from (msg.BackupFinish tx primary commit) h b =
+      record {
+        near = leaves_near s _ (backup_finish_leaves s from tx primary commit) b.near;
+        good =
+            backup_finish_good m around s from tx primary commit h.0 b.good;
+      }
   message_both s from (msg.BackupFinished tx primary) h b =
       let own = after_backup_finished_at_primary s from tx primary in
       let near = after_backup_finished_at_starter own from tx primary in
-      round_both near (λ (r : Round). record r { backups = without_member backup_wait_cmp r.backups (record { tx = tx; primary = primary; holder = from }) }) near.round
-      (near_backup_both own from tx primary (record { near = leaves_near s own (backup_finished_at_primary_leaves s from tx primary) b.near; good = own_backup_finished_good m around s from tx primary b.good }))
-  message_both s from (msg.NearUpdate tx key new ver) h b = record { near = b.near; good = near_update_good m around s from tx key new ver b.good }
-  message_both s from (msg.NearDone tx key) h b = record { near = leaves_near s _ (near_done_leaves s from tx key) b.near; good = near_done_good m around s from tx key b.good }
+      round_both near (λ (r : Round).
+      record r {
+        backups = without_member backup_wait_cmp r.backups (record { tx = tx; primary = primary; holder = from });
+      }) near.round
+      (near_backup_both own from tx primary
+      (record {
+        near = leaves_near s own (backup_finished_at_primary_leaves s from tx primary) b.near;
+        good =
+            own_backup_finished_good m around s from tx primary b.good;
+      }))
+  message_both s from (msg.NearUpdate tx key new ver) h b =
+      record { near = b.near; good = near_update_good m around s from tx key new ver b.good }
+  message_both s from (msg.NearDone tx key) h b = record {
+    near = leaves_near s _ (near_done_leaves s from tx key) b.near;
+    good = near_done_good m around s from tx key b.good;
+  }
   message_both s from (msg.Single top x complete) h b = absurd h.0
   message_both s from (msg.Full x) h b = absurd h.0
   message_both s from (msg.Installed top) h b = absurd h.0
@@ -155,14 +215,21 @@ module _ (most : ℕ) (m : PartMap) (around : VoteAround) where
       let g3 = near_on_goes around.mine most R kit started g2.0 in
       single_both (after_advance_starter started) (record { near = g3.0; good = g3.1 (g2.1 (g1.1 b1)) })
 
-  pub message_act_both : (s : NodeState) (from : NodeId) (x : Message) → Hand s from x → B s → B (after_closing_rules (after_message s from x))
+  pub message_act_both : (s : NodeState) (from : NodeId) (x : Message) → Hand s from x → B s →
+      B (after_closing_rules (after_message s from x))
   message_act_both s from x h b = closed_both (after_message s from x) (message_both s from x h b)
 
-  pub call_act_both : (s : NodeState) (session : ℕ) → RoomAt around.mine most (Keeps m around) (vote_kit m around most) s session → B s → B (after_closing_rules (after_call s session))
-  call_act_both s session room b = let goes = call_row_goes around.mine most (Keeps m around) (vote_kit m around most) s session room b.near in closed_both (after_call s session) (record { near = goes.0; good = goes.1 b.good })
+  pub call_act_both : (s : NodeState) (session : ℕ) →
+      RoomAt around.mine most (Keeps m around) (vote_kit m around most) s session → B s →
+      B (after_closing_rules (after_call s session))
+  call_act_both s session room b = let goes = call_row_goes around.mine most (Keeps m around) (vote_kit m around most) s
+      session room b.near in closed_both (after_call s session) (record { near = goes.0; good = goes.1 b.good })
 
   pub expire_act_both : (s : NodeState) (tx : TxId) → is_overdue s tx ≡ true → B s → B (after_closing_rules (after_expire s tx))
-  expire_act_both s tx due b = let goes = expire_goes around.mine most (Keeps m around) _ (vote_kit m around most) (vote_answers m around) s tx due b.near in closed_both (after_expire s tx) (record { near = goes.0; good = goes.1 b.good })
+  expire_act_both s tx due b = let goes = expire_goes around.mine most (Keeps m around) _ (vote_kit m around most)
+      (vote_answers m around) s tx due b.near in
+      closed_both (after_expire s tx) (record { near = goes.0; good = goes.1 b.good })
 
   pub answer_act_both : (s : NodeState) (session : ℕ) → B s → B (after_answer s session)
-  answer_act_both s session b = let goes = answer_row_goes around.mine most (Keeps m around) (vote_kit m around most) s session b.near in record { near = goes.0; good = goes.1 b.good }
+  answer_act_both s session b = let goes = answer_row_goes around.mine most (Keeps m around) (vote_kit m around most) s
+      session b.near in record { near = goes.0; good = goes.1 b.good }

@@ -32,15 +32,20 @@ module _ (k : ℕ) (sc : Scene) (starters : StarterInvariant k sc) (votes : Vote
   v = vote_view sc
 
   -- while a starter awaits answers to its Prepare it has decided nothing
-  undecided : (tx : TxId) (e : TxEntry) → entry_of (sc.state tx.node) tx ≡ Some e → e.state ≡ state.Preparing → v.decided tx.node tx ≡ []
+  undecided : (tx : TxId) (e : TxEntry) → entry_of (sc.state tx.node) tx ≡ Some e → e.state ≡ state.Preparing →
+      v.decided tx.node tx ≡ []
   undecided tx e there preparing =
-      let fits : EntryFits tx.node (recs_of tx.node sc.recs) _ tx e = subst (EntryFitsAt tx.node (recs_of tx.node sc.recs) _ tx) there ((starters.nodes tx.node).starter.entries tx) in
+      let fits : EntryFits tx.node (recs_of tx.node sc.recs) _ tx e =
+      subst (EntryFitsAt tx.node (recs_of tx.node sc.recs) _ tx) there ((starters.nodes tx.node).starter.entries tx) in
       fits.decided ∙ ap decided_as preparing
 
-  counts : (tx : TxId) (e : TxEntry) (primary : NodeId) → v.entry tx.node tx ≡ Some e → e.state ≡ state.Preparing → In primary e.asked → In primary e.awaited ⊎ IsReady (v.share primary tx) v.backup tx primary e.shares
+  counts : (tx : TxId) (e : TxEntry) (primary : NodeId) → v.entry tx.node tx ≡ Some e → e.state ≡ state.Preparing →
+      In primary e.asked → In primary e.awaited ⊎ IsReady (v.share primary tx) v.backup tx primary e.shares
   counts tx e primary there preparing asked = go ((votes.entries tx e there).counted preparing primary asked)
     where
-      go : IsDecided (v.decided tx.node tx) ⊎ In primary e.awaited ⊎ IsReady (v.share primary tx) v.backup tx primary e.shares → In primary e.awaited ⊎ IsReady (v.share primary tx) v.backup tx primary e.shares
+      go : IsDecided (v.decided tx.node tx) ⊎ In primary e.awaited
+          ⊎ IsReady (v.share primary tx) v.backup tx primary e.shares → In primary e.awaited
+          ⊎ IsReady (v.share primary tx) v.backup tx primary e.shares
       go (inl made) = absurd (let is = made.1 in let none = undecided tx e there preparing in cc (is, none))
       go (inr rest) = rest
 
@@ -50,11 +55,13 @@ module _ (k : ℕ) (sc : Scene) (starters : StarterInvariant k sc) (votes : Vote
     prepared_comes = λ from to tx there. votes.facts from to (msg.Prepared tx) there;
   }
 
-  finish_tells : (from to : NodeId) (tx : TxId) (commit : Bool) → In (msg.Finish tx commit) (v.flight from to) → Decided v tx commit
+  finish_tells : (from to : NodeId) (tx : TxId) (commit : Bool) → In (msg.Finish tx commit) (v.flight from to) →
+      Decided v tx commit
   finish_tells from to tx true there = (votes.facts from to (msg.Finish tx true) there).1
   finish_tells from to tx false there = votes.facts from to (msg.Finish tx false) there
 
-  committed_share : (node : NodeId) (tx : TxId) (h : OwnShare) → ShareFact v node tx (Some h) → is_share_committed h.state ≡ true → Decided v tx true
+  committed_share : (node : NodeId) (tx : TxId) (h : OwnShare) → ShareFact v node tx (Some h) →
+      is_share_committed h.state ≡ true → Decided v tx true
   committed_share node tx h (inl undone) is = absurd (let not_so = undone.1 in cc (is, not_so))
   committed_share node tx h (inr (inl done)) is = done.0
   committed_share node tx h (inr (inr open_vote)) is = absurd (by open_vote.either)
@@ -63,7 +70,8 @@ module _ (k : ℕ) (sc : Scene) (starters : StarterInvariant k sc) (votes : Vote
       by (inl st) = let no_commit = ap is_share_committed st in cc (is, no_commit)
       by (inr st) = let no_commit = ap is_share_committed st in cc (is, no_commit)
 
-  ready_share : (node : NodeId) (tx : TxId) (h : OwnShare) → ShareFact v node tx (Some h) → Decided v tx true → is_ready_state h.state ≡ true
+  ready_share : (node : NodeId) (tx : TxId) (h : OwnShare) → ShareFact v node tx (Some h) → Decided v tx true →
+      is_ready_state h.state ≡ true
   ready_share node tx h (inl undone) is = absurd (let rolled = undone.0 in cc (is, rolled))
   ready_share node tx h (inr (inl done)) is = done.1
   ready_share node tx h (inr (inr open_vote)) is = absurd (let none = open_vote.undecided in cc (is, none))
@@ -80,7 +88,8 @@ module _ (k : ℕ) (sc : Scene) (starters : StarterInvariant k sc) (votes : Vote
 
 -- Of every run.
 
-module _ (events : ℕ) (short : is_short_run events ≡ true) (j : Journal) (run : IsRunOf events j) (stands : topology_stands j.scenario ≡ true) where
+module _ (events : ℕ) (short : is_short_run events ≡ true) (j : Journal) (run : IsRunOf events j)
+    (stands : topology_stands j.scenario ≡ true) where
   holds : VoteInvariant (length j.groups) (last_scene j)
   holds = counted_holds VoteInvariant votes_lead (λ s is. votes_open s) j run.is_good (few events short j run) run.is_legal
 

@@ -10,7 +10,8 @@ use Rattle.tx_model.specs.Outlooks.{or_wait, wait_behind, wait_in}
 one_wait : (tx : TxId) (key : Key) (queue : List TxId) → wait_behind tx key queue ≡ slice_get (waits_in key (tx ∷ []) queue) 0
 one_wait tx key [] = refl
 one_wait tx key (owner ∷ waiters) =
-    elim (is_queued tx waiters) as (λ b. is_queued tx waiters ≡ b → wait_behind tx key (owner ∷ waiters) ≡ slice_get (waits_in key (tx ∷ []) (owner ∷ waiters)) 0) [
+    elim (is_queued tx waiters) as (λ b. is_queued tx waiters ≡ b → wait_behind tx key (owner ∷ waiters) ≡ slice_get
+    (waits_in key (tx ∷ []) (owner ∷ waiters)) 0) [
       | true ↦ λ g. rw (first_behind key tx owner waiters g) (rw g refl)
       | false ↦ λ g. rw (none_behind key tx owner waiters g) (rw g refl)
     ] refl

@@ -20,7 +20,12 @@ run_begun scenario = record { scenario = scenario; now = opening scenario; past 
 -- after one more event
 abbrev pub run_after : Run → Event → Run
 run_after r e =
-    record { scenario = r.scenario; now = (outcome r.now e).world; past = r.past ++ record { event = e; recs = (outcome r.now e).recs } ∷ [] }
+    record {
+      scenario = r.scenario;
+      now = (outcome r.now e).world;
+      past =
+          r.past ++ record { event = e; recs = (outcome r.now e).recs } ∷ [];
+    }
 
 -- what want of memory leaves
 pub record KeepsPast (old new : Run) : Type 0 where

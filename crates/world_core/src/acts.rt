@@ -41,7 +41,10 @@ impl World {
 
     /// A session on the node at this place gives its next command.
     fn call_at(&mut self, session: u32, place: Option<usize>) -> Mem<List<Rec>>
-        ensures world { OnOk result (self.new ≡ record self.old { now = (call_outcome self.old.now session place (part_on self.old.now place)).world }) }
+        ensures world { OnOk result
+            (self.new ≡ record self.old {
+              now = (call_outcome self.old.now session place (part_on self.old.now place)).world;
+            }) }
         ensures recs { IfOk result (λ recs. recs ≡ (call_outcome self.old.now session place (part_on self.old.now place)).recs) }
         ensures err { OnErr result (KeepsPast self.old self.new) }
     {
@@ -67,8 +70,14 @@ impl World {
 
     /// The node at this place takes the oldest message of a sender.
     fn take_at(&mut self, from: NodeId, place: Option<usize>) -> Mem<List<Rec>>
-        ensures world { OnOk result (self.new ≡ record self.old { now = (act_outcome self.old.now from place (part_on self.old.now place) (inbox_on self.old.now place)).world }) }
-        ensures recs { IfOk result (λ recs. recs ≡ (act_outcome self.old.now from place (part_on self.old.now place) (inbox_on self.old.now place)).recs) }
+        ensures world { OnOk result
+            (self.new ≡ record self.old {
+              now =
+                  (act_outcome self.old.now from place (part_on self.old.now place) (inbox_on self.old.now place)).world;
+            }) }
+        ensures recs { IfOk result
+            (λ recs. recs ≡ (act_outcome self.old.now from place (part_on self.old.now place)
+            (inbox_on self.old.now place)).recs) }
         ensures err { OnErr result (KeepsPast self.old self.new) }
     {
         let Some(place) = place else {
@@ -105,7 +114,10 @@ impl World {
 
     /// A message goes into the inbox at this place.
     fn reach(&mut self, from: NodeId, message: Message, place: Option<usize>) -> Mem<()>
-        ensures ok { OnOk result (self.new ≡ record self.old { now = with_inbox_push self.old.now from message place (inbox_on self.old.now place) }) }
+        ensures ok { OnOk result
+            (self.new ≡ record self.old {
+              now = with_inbox_push self.old.now from message place (inbox_on self.old.now place);
+            }) }
         ensures err { OnErr result (KeepsPast self.old self.new) }
     {
         let Some(place) = place else {
@@ -160,7 +172,8 @@ impl World {
 
     /// The node at this place reads the next topology event.
     fn see_at(&mut self, place: Option<usize>) -> Mem<List<Rec>>
-        ensures world { OnOk result (self.new ≡ record self.old { now = (see_outcome self.old.now place (part_on self.old.now place)).world }) }
+        ensures world { OnOk result
+            (self.new ≡ record self.old { now = (see_outcome self.old.now place (part_on self.old.now place)).world }) }
         ensures recs { IfOk result (λ recs. recs ≡ (see_outcome self.old.now place (part_on self.old.now place)).recs) }
         ensures err { OnErr result (KeepsPast self.old self.new) }
     {
@@ -189,7 +202,8 @@ impl World {
 
     /// The deadline of a transaction was reached at the node at this place.
     fn expire_at(&mut self, tx: TxId, place: Option<usize>) -> Mem<List<Rec>>
-        ensures world { OnOk result (self.new ≡ record self.old { now = (expire_outcome self.old.now tx place (part_on self.old.now place)).world }) }
+        ensures world { OnOk result
+            (self.new ≡ record self.old { now = (expire_outcome self.old.now tx place (part_on self.old.now place)).world }) }
         ensures recs { IfOk result (λ recs. recs ≡ (expire_outcome self.old.now tx place (part_on self.old.now place)).recs) }
         ensures err { OnErr result (KeepsPast self.old self.new) }
     {

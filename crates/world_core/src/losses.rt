@@ -99,7 +99,8 @@ impl World {
 
     /// A node is lost, where its loss is not refused.
     pub(crate) fn loses(&mut self, id: NodeId, refused: Option<NoLoss>) -> Mem<List<Rec>>
-        ensures world { OnOk result (self.new ≡ record self.old { now = (loss_outcome self.old.now id self.old.now.directory refused).world }) }
+        ensures world { OnOk result
+            (self.new ≡ record self.old { now = (loss_outcome self.old.now id self.old.now.directory refused).world }) }
         ensures recs { IfOk result (λ recs. recs ≡ (loss_outcome self.old.now id self.old.now.directory refused).recs) }
         ensures err { OnErr result (KeepsPast self.old self.new) }
     {

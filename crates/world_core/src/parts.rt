@@ -67,7 +67,11 @@ impl Part {
 
     /// The node joins: it learns these events and the clock, and reads its own Join.
     pub(crate) fn join(&mut self, events: &[TopoEvent], now: u64, own: &TopoEvent) -> Mem<List<Rec>>
-        ensures part { OnOk result (self.new ≡ record { node = (join_act self.old.node events.now now own.now).state; life = Life.Alive }) }
+        ensures part { OnOk result (self.new ≡ record {
+          node = (join_act self.old.node events.now now own.now).state;
+          life =
+              Life.Alive;
+        }) }
         ensures recs { IfOk result (λ recs. recs ≡ (join_act self.old.node events.now now own.now).recs) }
     {
         let recs = join(&mut self.node, events, now, own)?;

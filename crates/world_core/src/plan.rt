@@ -11,7 +11,8 @@ use ignite_types::{List, Mem, Member, NoLoss, NodeId, Rec, Step, TopoEvent};
 impl World {
     /// The plan step at hand is done or refused.
     pub(crate) fn pass(&mut self, refused: Option<NoLoss>, recs: List<Rec>) -> Mem<List<Rec>>
-        ensures world { OnOk result (self.new ≡ record self.old { now = (plan_outcome_with self.old.now self.old.now.directory refused recs).world }) }
+        ensures world { OnOk result
+            (self.new ≡ record self.old { now = (plan_outcome_with self.old.now self.old.now.directory refused recs).world }) }
         ensures recs { IfOk result (λ all. all ≡ (plan_outcome_with self.old.now self.old.now.directory refused recs).recs) }
         ensures err { OnErr result (KeepsPast self.old self.new) }
     {
@@ -27,8 +28,13 @@ impl World {
 
     /// A declared node joins.
     fn joins(&mut self, member: Member, place: Option<usize>) -> Mem<List<Rec>>
-        ensures world { OnOk result (self.new ≡ record self.old { now = (join_outcome self.old.now member self.old.now.directory place (part_on self.old.now place)).world }) }
-        ensures recs { IfOk result (λ recs. recs ≡ (join_outcome self.old.now member self.old.now.directory place (part_on self.old.now place)).recs) }
+        ensures world { OnOk result
+            (self.new ≡ record self.old {
+              now =
+                  (join_outcome self.old.now member self.old.now.directory place (part_on self.old.now place)).world;
+            }) }
+        ensures recs { IfOk result
+            (λ recs. recs ≡ (join_outcome self.old.now member self.old.now.directory place (part_on self.old.now place)).recs) }
         ensures err { OnErr result (KeepsPast self.old self.new) }
     {
         let Some(place) = place else {
@@ -62,7 +68,8 @@ impl World {
 
     /// A step of the plan is done or refused.
     fn does_step(&mut self, step: Step) -> Mem<List<Rec>>
-        ensures world { OnOk result (self.new ≡ record self.old { now = (step_outcome self.old.now self.old.now.directory step).world }) }
+        ensures world { OnOk result
+            (self.new ≡ record self.old { now = (step_outcome self.old.now self.old.now.directory step).world }) }
         ensures recs { IfOk result (λ recs. recs ≡ (step_outcome self.old.now self.old.now.directory step).recs) }
         ensures err { OnErr result (KeepsPast self.old self.new) }
     {

@@ -112,7 +112,8 @@ impl World {
     }
 
     fn add_acts(&self, events: &mut List<Event>) -> Mem<()>
-        ensures { OnOk result (events.new ≡ events.old ++ possible_acts self.now.now (node_ids self.now.now) (node_ids self.now.now)) }
+        ensures { OnOk result (events.new ≡ events.old ++ possible_acts self.now.now (node_ids self.now.now)
+            (node_ids self.now.now)) }
     {
         for part in self.parts.as_slice() {
             self.add_acts_of(events, part.id())?;

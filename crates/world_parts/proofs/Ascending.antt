@@ -34,7 +34,8 @@ module _ (s : Scenario) where
   within id k place = slice_get_within (declared_ids s) k id (found_there (declared_ids s) id k place)
 
   -- a statement of a place, if it is one of a declared node
-  at_place : (F : Option ℕ → Type 0) → F None → ((k : ℕ) → k < length (declared_ids s) → F (Some k)) → (o : Option NodeId) → F (option_and_then (declared_place s) o)
+  at_place : (F : Option ℕ → Type 0) → F None → ((k : ℕ) → k < length (declared_ids s) → F (Some k)) → (o : Option NodeId) →
+      F (option_and_then (declared_place s) o)
   at_place F none some None = none
   at_place F none some (Some id) = by (declared_place s id) refl
     where
@@ -46,23 +47,35 @@ module _ (s : Scenario) where
   node_up o = at_place (λ x. Up (node_alone x)) tt (λ k below. (omega arith, omega (arith, below), tt)) o
 
   pair_up : (o : Option NodeId) → Up (directory_and_node (option_and_then (declared_place s) o))
-  pair_up o = at_place (λ x. Up (directory_and_node x)) tt (λ k below. (omega arith, omega arith, (omega arith, omega (arith, below), tt))) o
+  pair_up o = at_place (λ x. Up (directory_and_node x)) tt
+      (λ k below. (omega arith, omega arith, (omega arith, omega (arith, below), tt))) o
 
   both_up : (o : Option NodeId) → Up (node_and_inbox (option_and_then (declared_place s) o))
-  both_up o = at_place (λ x. Up (node_and_inbox x)) tt (λ k below. (omega arith, omega (arith, below), (omega arith, omega (arith, below), tt))) o
+  both_up o = at_place (λ x. Up (node_and_inbox x)) tt (λ k below. (
+    omega arith,
+    omega (arith, below),
+    (omega arith, omega (arith, below), tt),
+  )) o
 
   both_up_behind : (o : Option NodeId) → UpFromOne (node_and_inbox (option_and_then (declared_place s) o))
-  both_up_behind o = at_place (λ x. UpFromOne (node_and_inbox x)) tt (λ k below. (omega arith, omega (arith, below), (omega arith, omega (arith, below), tt))) o
+  both_up_behind o = at_place (λ x. UpFromOne (node_and_inbox x)) tt
+      (λ k below. (omega arith, omega (arith, below), (omega arith, omega (arith, below), tt))) o
 
   inbox_up_behind : (o : Option NodeId) → UpFromOne (inbox_alone (option_and_then (declared_place s) o))
   inbox_up_behind o = at_place (λ x. UpFromOne (inbox_alone x)) tt (λ k below. (omega arith, omega (arith, below), tt)) o
 
-  send_up : (from to : Option NodeId) → Up (node_and_addressee (option_and_then (declared_place s) from) (option_and_then (declared_place s) to))
-  send_up from to = at_place (λ x. Up (node_and_addressee x (option_and_then (declared_place s) to))) tt (λ k below. at_place (λ y. Up (node_and_addressee (Some k) y)) (omega arith, omega (arith, below), tt) (λ j also. by k j below also (nat_lt j k) refl) to) from
+  send_up : (from to : Option NodeId) →
+      Up (node_and_addressee (option_and_then (declared_place s) from) (option_and_then (declared_place s) to))
+  send_up from to = at_place (λ x. Up (node_and_addressee x (option_and_then (declared_place s) to))) tt
+      (λ k below. at_place (λ y. Up (node_and_addressee (Some k) y)) (omega arith, omega (arith, below), tt)
+      (λ j also. by k j below also (nat_lt j k) refl) to) from
     where
-      by : (k j : ℕ) → k < length (declared_ids s) → j < length (declared_ids s) → (c : Bool) → nat_lt j k ≡ c → Up (if c then inbox_part j ∷ node_part k ∷ [] else node_part k ∷ inbox_part j ∷ [])
-      by k j below also true less = let lower : j < k = grind (arith, nat_tests, less) in (omega arith, omega (arith, also), (omega (arith, lower), omega (arith, below), tt))
-      by k j below also false more = let higher : k ≤ j = grind (arith, nat_tests, more) in (omega arith, omega (arith, below), (omega (arith, higher), omega (arith, also), tt))
+      by : (k j : ℕ) → k < length (declared_ids s) → j < length (declared_ids s) → (c : Bool) → nat_lt j k ≡ c →
+          Up (if c then inbox_part j ∷ node_part k ∷ [] else node_part k ∷ inbox_part j ∷ [])
+      by k j below also true less = let lower : j < k = grind (arith, nat_tests, less) in
+          (omega arith, omega (arith, also), (omega (arith, lower), omega (arith, below), tt))
+      by k j below also false more = let higher : k ≤ j = grind (arith, nat_tests, more) in
+          (omega arith, omega (arith, below), (omega (arith, higher), omega (arith, also), tt))
 
   all_up : (k m : ℕ) → k + m ≤ part_count s → ascends_to (part_count s) k (numbers_from k m)
   all_up k zero far = tt
@@ -110,14 +123,16 @@ touches_below s e recs = are_below (part_count s) 0 (touches_of s e recs) (touch
 
 -- What is put at ascending numbers is read there again.
 
-above_all : (n k p : ℕ) (x : PartValue) (qs : List ℕ) (xs : List PartValue) (f : ℕ → PartValue) (ps : List ℕ) → p < k → ascends_to n k ps → map (with_values (p ∷ qs) (x ∷ xs) f) ps ≡ map (with_values qs xs f) ps
+above_all : (n k p : ℕ) (x : PartValue) (qs : List ℕ) (xs : List PartValue) (f : ℕ → PartValue) (ps : List ℕ) → p < k →
+    ascends_to n k ps → map (with_values (p ∷ qs) (x ∷ xs) f) ps ≡ map (with_values qs xs f) ps
 above_all n k p x qs xs f [] low up = refl
 above_all n k p x qs xs f (r ∷ rs) low up =
     let first : (p == r) ≡ false = let above = up.0 in grind (arith, nat_tests, low, above) in
     let rest = above_all n (r + 1) p x qs xs f rs (let above = up.0 in omega (arith, low, above)) up.2 in
     λ i. ap (λ (b : Bool). replay_or (if b then Some x else held_at r (held_pairs qs xs)) (f r)) first i ∷ rest i
 
-pub read_back : (n k : ℕ) (ps : List ℕ) (xs : List PartValue) (f : ℕ → PartValue) → ascends_to n k ps → length xs ≡ length ps → map (with_values ps xs f) ps ≡ xs
+pub read_back : (n k : ℕ) (ps : List ℕ) (xs : List PartValue) (f : ℕ → PartValue) → ascends_to n k ps →
+    length xs ≡ length ps → map (with_values ps xs f) ps ≡ xs
 read_back n k [] [] f up long = refl
 read_back n k [] (x ∷ xs) f up long = absurd (omega (arith, long))
 read_back n k (p ∷ ps) [] f up long = absurd (omega (arith, long))
@@ -126,5 +141,6 @@ read_back n k (p ∷ ps) (x ∷ xs) f up long =
     let rest = above_all n (p + 1) p x ps xs f ps (omega arith) up.2 ∙ read_back n (p + 1) ps xs f up.2 (omega (arith, long)) in
     λ i. ap (λ (b : Bool). replay_or (if b then Some x else held_at p (held_pairs ps xs)) (f p)) itself i ∷ rest i
 
-pub read_touched : (s : Scenario) (e : Event) (recs : List Rec) (xs : List PartValue) (f : ℕ → PartValue) → length xs ≡ length (touches_of s e recs) → map (with_values (touches_of s e recs) xs f) (touches_of s e recs) ≡ xs
+pub read_touched : (s : Scenario) (e : Event) (recs : List Rec) (xs : List PartValue) (f : ℕ → PartValue) →
+    length xs ≡ length (touches_of s e recs) → map (with_values (touches_of s e recs) xs f) (touches_of s e recs) ≡ xs
 read_touched s e recs xs f long = read_back (part_count s) 0 (touches_of s e recs) xs f (touches_up s e recs) long

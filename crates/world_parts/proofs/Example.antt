@@ -14,5 +14,6 @@ abbrev round_trip : List (List ℕ)
 round_trip = (2 ∷ 3 ∷ []) ∷ (1 ∷ 2 ∷ []) ∷ (1 ∷ 4 ∷ []) ∷ (3 ∷ 4 ∷ []) ∷ []
 
 -- the Call at node 2, five round trips, and the Answer, which counts in the directory
-the_parts_touched : map (touches small) (groups 100 (opening small)) ≡ ((3 ∷ []) ∷ round_trip) ++ round_trip ++ round_trip ++ round_trip ++ round_trip ++ (0 ∷ 3 ∷ []) ∷ []
+the_parts_touched : map (touches small) (groups 100 (opening small)) ≡ ((3 ∷ []) ∷ round_trip) ++ round_trip ++ round_trip
+    ++ round_trip ++ round_trip ++ (0 ∷ 3 ∷ []) ∷ []
 the_parts_touched = refl

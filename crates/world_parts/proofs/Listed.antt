@@ -37,7 +37,8 @@ later y xs x stands = (suc stands.0, stands.1)
 in_map : {A B : Type 0} (f : A → B) (xs : List A) (x : A) → StandsIn xs x → StandsIn (map f xs) (f x)
 in_map f xs x stands = (stands.0, slice_get-map f xs stands.0 ∙ ap (option_map f) stands.1)
 
-in_filter : {A : Type 0} (t : A → Bool) (x : A) → t x ≡ true → (xs : List A) (k : ℕ) → slice_get xs k ≡ Some x → StandsIn (filter t xs) x
+in_filter : {A : Type 0} (t : A → Bool) (x : A) → t x ≡ true → (xs : List A) (k : ℕ) → slice_get xs k ≡ Some x →
+    StandsIn (filter t xs) x
 in_filter t x passes [] k is = absurd (cc (is))
 in_filter t x passes (y ∷ ys) zero is =
     subst (λ (c : Bool). StandsIn (if c then y ∷ filter t ys else filter t ys) x) (sym (ap t (some_is y x is) ∙ passes)) (0, is)
@@ -56,17 +57,20 @@ in_right : {A : Type 0} (ys : List A) (x : A) → StandsIn ys x → (xs : List A
 in_right ys x stands [] = stands
 in_right ys x stands (z ∷ zs) = later z (zs ++ ys) x (in_right ys x stands zs)
 
-key_stands : (table : List (ℕ × NodeId)) (n : ℕ) (id : NodeId) → at nat_cmp table n ≡ Some id → StandsIn (map (λ (home : ℕ × NodeId). home.0) table) n
+key_stands : (table : List (ℕ × NodeId)) (n : ℕ) (id : NodeId) → at nat_cmp table n ≡ Some id →
+    StandsIn (map (λ (home : ℕ × NodeId). home.0) table) n
 key_stands [] n id is = absurd (cc (is))
 key_stands (e ∷ es) n id is = by (nat_cmp n e.0) refl is (λ there. key_stands es n id there)
   where
-    by : (r : Ordering) → nat_cmp n e.0 ≡ r → match_ordering r None (Some e.1) (at nat_cmp es n) ≡ Some id → (at nat_cmp es n ≡ Some id → StandsIn (map (λ (home : ℕ × NodeId). home.0) es) n)
+    by : (r : Ordering) → nat_cmp n e.0 ≡ r → match_ordering r None (Some e.1) (at nat_cmp es n) ≡ Some id →
+        (at nat_cmp es n ≡ Some id → StandsIn (map (λ (home : ℕ × NodeId). home.0) es) n)
         → StandsIn (map (λ (home : ℕ × NodeId). home.0) (e ∷ es)) n
     by Less is there rest = absurd (cc (there))
     by Equal is there rest = (0, ap (λ (k : ℕ). Some k) (sym (exact_unsigned n e.0 is)))
     by Greater is there rest = later e.0 (map (λ (home : ℕ × NodeId). home.0) es) n (rest there)
 
-module _ (s : Scenario) (apart : are_distinct good.same_member_node (members s) ≡ true) (w : World) (shaped : IsShaped s w) where
+module _ (s : Scenario) (apart : are_distinct good.same_member_node (members s) ≡ true) (w : World)
+    (shaped : IsShaped s w) where
   abbrev f : ℕ → PartValue
   f = parts_of s w
 
@@ -75,7 +79,11 @@ module _ (s : Scenario) (apart : are_distinct good.same_member_node (members s) 
   named = node_events w ++ plan_events w ++ tick_events w (is_quiet w)
 
   number_stands : (id : NodeId) (k : ℕ) → Standing s w id k → StandsIn (node_ids w) id
-  number_stands id k t = (t.r, slice_get-map (λ (p : Part). p.node.me) w.parts t.r ∙ ap (option_map (λ (p : Part). p.node.me)) t.node_at ∙ ap (λ (n : NodeId). Some n) t.me_is)
+  number_stands id k t = (
+    t.r,
+    slice_get-map (λ (p : Part). p.node.me) w.parts t.r
+        ∙ ap (option_map (λ (p : Part). p.node.me)) t.node_at ∙ ap (λ (n : NodeId). Some n) t.me_is,
+  )
 
   can_stand : (e : Event) (es : List Event) → can_be w e ≡ true → StandsIn es e → StandsIn (possible_of w es) e
   can_stand e es can stands = in_filter (can_be w) e can es stands.0 stands.1
@@ -146,20 +154,25 @@ module _ (s : Scenario) (apart : are_distinct good.same_member_node (members s) 
 
   -- Where each kind is listed.
 
-  acts_stand : (id from : NodeId) → can_be w (event.Act id from) ≡ true → (senders : List NodeId) → StandsIn senders from → (ids : List NodeId) (k : ℕ) → slice_get ids k ≡ Some id
+  acts_stand : (id from : NodeId) → can_be w (event.Act id from) ≡ true → (senders : List NodeId) → StandsIn senders from →
+      (ids : List NodeId) (k : ℕ) → slice_get ids k ≡ Some id
       → StandsIn (possible_acts w senders ids) (event.Act id from)
   acts_stand id from can senders sender [] k is = absurd (cc (is))
   acts_stand id from can senders sender (x ∷ xs) zero is =
       let here = can_stand (event.Act id from) (map (event.Act id) senders) can (in_map (event.Act id) senders from sender) in
-      subst (λ (n : NodeId). StandsIn (possible_of w (map (event.Act n) senders) ++ possible_acts w senders xs) (event.Act id from)) (sym (some_is x id is))
+      subst (λ (n : NodeId). StandsIn (possible_of w (map (event.Act n) senders) ++ possible_acts w senders xs)
+      (event.Act id from)) (sym (some_is x id is))
       (in_left (possible_acts w senders xs) (event.Act id from) (possible_of w (map (event.Act id) senders)) here.0 here.1)
   acts_stand id from can senders sender (x ∷ xs) (suc k) is =
-      in_right (possible_acts w senders xs) (event.Act id from) (acts_stand id from can senders sender xs k is) (possible_of w (map (event.Act x) senders))
+      in_right (possible_acts w senders xs) (event.Act id from) (acts_stand id from can senders sender xs k is)
+      (possible_of w (map (event.Act x) senders))
 
-  txs_stand : (tx : TxId) (session : ℕ) → tx_of_session session (session_node_at w session) ≡ Some tx → (numbers : List ℕ) (k : ℕ) → slice_get numbers k ≡ Some session → StandsIn (txs_of_sessions w numbers) tx
+  txs_stand : (tx : TxId) (session : ℕ) → tx_of_session session (session_node_at w session) ≡ Some tx →
+      (numbers : List ℕ) (k : ℕ) → slice_get numbers k ≡ Some session → StandsIn (txs_of_sessions w numbers) tx
   txs_stand tx session is [] k at = absurd (cc (at))
   txs_stand tx session is (n ∷ ns) zero at =
-      let here : tx_of_session n (session_node_at w n) ≡ Some tx = subst (λ (m : ℕ). tx_of_session m (session_node_at w m) ≡ Some tx) (sym (some_is n session at)) is in
+      let here : tx_of_session n (session_node_at w n) ≡ Some tx =
+      subst (λ (m : ℕ). tx_of_session m (session_node_at w m) ≡ Some tx) (sym (some_is n session at)) is in
       by (tx_of_session n (session_node_at w n)) here
     where
       by : (o : Option TxId) → o ≡ Some tx → StandsIn (with_tx o (txs_of_sessions w ns)) tx
@@ -171,15 +184,18 @@ module _ (s : Scenario) (apart : are_distinct good.same_member_node (members s) 
       by None stands = stands
       by (Some t) stands = later t (txs_of_sessions w ns) tx stands
 
-  session_stands : (session : ℕ) (o : Option NodeId) → session_node w session ≡ o → is_some o ≡ true → StandsIn (sessions w) session
+  session_stands : (session : ℕ) (o : Option NodeId) → session_node w session ≡ o → is_some o ≡ true →
+      StandsIn (sessions w) session
   session_stands session None is some = absurd (cc (some))
   session_stands session (Some id) is some = key_stands w.session_nodes session id is
 
-  answer_home : (session : ℕ) (o : Option NodeId) → can_answer session (state_of_part (part_on w (option_and_then (live_place w) o))) ≡ true → is_some o ≡ true
+  answer_home : (session : ℕ) (o : Option NodeId) →
+      can_answer session (state_of_part (part_on w (option_and_then (live_place w) o))) ≡ true → is_some o ≡ true
   answer_home session None can = absurd (cc (can))
   answer_home session (Some id) can = refl
 
-  call_home : (session : ℕ) (o : Option NodeId) → can_call session (state_of_part (part_on w (option_and_then (live_place w) o))) ≡ true → is_some o ≡ true
+  call_home : (session : ℕ) (o : Option NodeId) →
+      can_call session (state_of_part (part_on w (option_and_then (live_place w) o))) ≡ true → is_some o ≡ true
   call_home session None can = absurd (cc (can))
   call_home session (Some id) can = refl
 
@@ -187,14 +203,18 @@ module _ (s : Scenario) (apart : are_distinct good.same_member_node (members s) 
   declared_stands id None place some = absurd (cc (some))
   declared_stands id (Some k) place some = number_stands id k (standing s apart w shaped id k place)
 
-  open_told : (tx : TxId) → is_listed s (event.Expire tx) (map f (node_alone (declared_place s tx.node))) ≡ true → can_be w (event.Expire tx) ≡ true
-      → (home_of s tx.session ≡ Some tx.node) × (tx_of_session tx.session (state_of_part (part_on w (live_place w tx.node))) ≡ Some tx)
+  open_told : (tx : TxId) → is_listed s (event.Expire tx) (map f (node_alone (declared_place s tx.node))) ≡ true →
+      can_be w (event.Expire tx) ≡ true
+      → (home_of s tx.session ≡ Some tx.node)
+      × (tx_of_session tx.session (state_of_part (part_on w (live_place w tx.node))) ≡ Some tx)
   open_told tx =
       each_node s apart w shaped tx.node
-      (λ o place p. is_listed s (event.Expire tx) (map f (node_alone o)) ≡ true → can_expire tx (state_of_part p) ≡ true → (home_of s tx.session ≡ Some tx.node) × (tx_of_session tx.session (state_of_part p) ≡ Some tx))
+      (λ o place p. is_listed s (event.Expire tx) (map f (node_alone o)) ≡ true → can_expire tx (state_of_part p) ≡ true →
+      (home_of s tx.session ≡ Some tx.node) × (tx_of_session tx.session (state_of_part p) ≡ Some tx))
       (λ listed can. absurd (cc (can)))
       (λ k t away listed can. absurd (cc (can)))
-      (λ k t alive listed can. by t.node.node (subst (λ (x : PartValue). is_listed s (event.Expire tx) (x ∷ []) ≡ true) t.node_is listed))
+      (λ k t alive listed can.
+      by t.node.node (subst (λ (x : PartValue). is_listed s (event.Expire tx) (x ∷ []) ≡ true) t.node_is listed))
     where
       as_node : (o : Option NodeId) (id : NodeId) → is_node o id ≡ true → o ≡ Some id
       as_node None id is = absurd (cc (is))
@@ -204,27 +224,34 @@ module _ (s : Scenario) (apart : are_distinct good.same_member_node (members s) 
       as_tx None t is = absurd (cc (is))
       as_tx (Some x) t is = ap (λ (y : TxId). Some y) (same_tx_true x t is)
 
-      by : (node : NodeState) → is_open_tx s node tx ≡ true → (home_of s tx.session ≡ Some tx.node) × (tx_of_session tx.session (Some node) ≡ Some tx)
+      by : (node : NodeState) → is_open_tx s node tx ≡ true → (home_of s tx.session ≡ Some tx.node)
+          × (tx_of_session tx.session (Some node) ≡ Some tx)
       by node is =
           let both = first_rest (is_node (home_of s tx.session) tx.node) (is_tx (tx_of_session tx.session (Some node)) tx) is in
           (as_node (home_of s tx.session) tx.node both.0, as_tx (tx_of_session tx.session (Some node)) tx both.1)
 
-  expire_stands : (tx : TxId) → is_listed s (event.Expire tx) (map f (node_alone (declared_place s tx.node))) ≡ true → can_be w (event.Expire tx) ≡ true → StandsIn named (event.Expire tx)
+  expire_stands : (tx : TxId) → is_listed s (event.Expire tx) (map f (node_alone (declared_place s tx.node))) ≡ true →
+      can_be w (event.Expire tx) ≡ true → StandsIn named (event.Expire tx)
   expire_stands tx listed can =
       let told = open_told tx listed can in
-      let home : session_node w tx.session ≡ Some tx.node = ap (λ (homes : List (ℕ × NodeId)). at nat_cmp homes tx.session) shaped.homes_are ∙ told.0 in
+      let home : session_node w tx.session ≡ Some tx.node =
+      ap (λ (homes : List (ℕ × NodeId)). at nat_cmp homes tx.session) shaped.homes_are ∙ told.0 in
       let session = key_stands w.session_nodes tx.session tx.node home in
       let current : tx_of_session tx.session (session_node_at w tx.session) ≡ Some tx =
-      ap (λ (o : Option NodeId). tx_of_session tx.session (state_of_part (part_on w (option_and_then (live_place w) o)))) home ∙ told.1 in
+      ap (λ (o : Option NodeId). tx_of_session tx.session (state_of_part (part_on w (option_and_then (live_place w) o)))) home
+      ∙ told.1 in
       let open_tx = txs_stand tx tx.session current (sessions w) session.0 session.1 in
-      an_expire (event.Expire tx) (can_stand (event.Expire tx) (map event.Expire (open_txs w)) can (in_map event.Expire (open_txs w) tx open_tx))
+      an_expire (event.Expire tx) (can_stand (event.Expire tx) (map event.Expire (open_txs w)) can
+      (in_map event.Expire (open_txs w) tx open_tx))
 
   -- an event that touches nothing is not possible
-  act_place : (from : NodeId) (a : PartsAfter) (o : Option ℕ) → after_act from (map f (node_and_inbox o)) ≡ Some a → is_some o ≡ true
+  act_place : (from : NodeId) (a : PartsAfter) (o : Option ℕ) → after_act from (map f (node_and_inbox o)) ≡ Some a →
+      is_some o ≡ true
   act_place from a None made = absurd (cc (made))
   act_place from a (Some k) made = refl
 
-  send_place : (to : Option ℕ) (a : PartsAfter) (o : Option ℕ) → after_send (map f (node_and_addressee o to)) ≡ Some a → is_some o ≡ true
+  send_place : (to : Option ℕ) (a : PartsAfter) (o : Option ℕ) → after_send (map f (node_and_addressee o to)) ≡ Some a →
+      is_some o ≡ true
   send_place to a None made = absurd (cc (made))
   send_place to a (Some k) made = refl
 
@@ -236,35 +263,49 @@ module _ (s : Scenario) (apart : are_distinct good.same_member_node (members s) 
   minor_place a None made = absurd (cc (made))
   minor_place a (Some k) made = refl
 
-  listed_named : (e : Event) (recs : List Rec) (a : PartsAfter) → parts_after s e (map f (touches_of s e recs)) ≡ Some a → is_listed s e (map f (touches_of s e recs)) ≡ true
+  listed_named : (e : Event) (recs : List Rec) (a : PartsAfter) → parts_after s e (map f (touches_of s e recs)) ≡ Some a →
+      is_listed s e (map f (touches_of s e recs)) ≡ true
       → can_be w e ≡ true → (is_tick e ≡ true → is_quiet w ≡ true) → StandsIn named e
   listed_named (event.Answer session) recs a made listed can quiet =
       an_answer (event.Answer session) (can_stand (event.Answer session) (map event.Answer (sessions w)) can
-      (in_map event.Answer (sessions w) session (session_stands session (session_node w session) refl (answer_home session (session_node w session) can))))
+      (in_map event.Answer (sessions w) session (session_stands session (session_node w session) refl
+      (answer_home session (session_node w session) can))))
   listed_named (event.Act id from) recs a made listed can quiet =
       let at = declared_stands id (declared_place s id) refl (act_place from a (declared_place s id) made) in
-      an_act (event.Act id from) (acts_stand id from can (node_ids w) (declared_stands from (declared_place s from) refl listed) (node_ids w) at.0 at.1)
+      an_act (event.Act id from)
+      (acts_stand id from can (node_ids w) (declared_stands from (declared_place s from) refl listed)
+      (node_ids w) at.0 at.1)
   listed_named (event.Send id) recs a made listed can quiet =
       a_send (event.Send id) (can_stand (event.Send id) (map event.Send (node_ids w)) can
-      (in_map event.Send (node_ids w) id (declared_stands id (declared_place s id) refl (send_place (option_and_then (declared_place s) (addressee_in recs)) a (declared_place s id) made))))
+      (in_map event.Send (node_ids w) id
+      (declared_stands id (declared_place s id) refl
+      (send_place (option_and_then (declared_place s) (addressee_in recs)) a (declared_place s id) made))))
   listed_named (event.See id) recs a made listed can quiet =
-      a_see (event.See id) (can_stand (event.See id) (map event.See (node_ids w)) can (in_map event.See (node_ids w) id (declared_stands id (declared_place s id) refl (see_place a (declared_place s id) made))))
+      a_see (event.See id) (can_stand (event.See id) (map event.See (node_ids w)) can
+      (in_map event.See (node_ids w) id
+      (declared_stands id (declared_place s id) refl (see_place a (declared_place s id) made))))
   listed_named (event.Expire tx) recs a made listed can quiet = expire_stands tx listed can
   listed_named (event.Minor id) recs a made listed can quiet =
-      a_minor (event.Minor id) (can_stand (event.Minor id) (map event.Minor (node_ids w)) can (in_map event.Minor (node_ids w) id (declared_stands id (declared_place s id) refl (minor_place a (declared_place s id) made))))
+      a_minor (event.Minor id) (can_stand (event.Minor id) (map event.Minor (node_ids w)) can
+      (in_map event.Minor (node_ids w) id
+      (declared_stands id (declared_place s id) refl (minor_place a (declared_place s id) made))))
   listed_named (event.Call session) recs a made listed can quiet =
       a_call (event.Call session) (can_stand (event.Call session) (map event.Call (sessions w)) can
-      (in_map event.Call (sessions w) session (session_stands session (session_node w session) refl (call_home session (session_node w session) can))))
+      (in_map event.Call (sessions w) session (session_stands session (session_node w session) refl
+      (call_home session (session_node w session) can))))
   listed_named event.Plan recs a made listed can quiet =
       let here = can_stand event.Plan (event.Plan ∷ []) can (0, refl) in
       let more = in_right (plan_events w) event.Plan here (node_events w) in
       in_left (tick_events w (is_quiet w)) event.Plan (node_events w ++ plan_events w) more.0 more.1
   listed_named event.Tick recs a made listed can quiet =
-      let here = subst (λ (c : Bool). StandsIn (tick_events w c) event.Tick) (sym (quiet refl)) (can_stand event.Tick (event.Tick ∷ []) can (0, refl)) in
+      let here = subst (λ (c : Bool). StandsIn (tick_events w c) event.Tick) (sym (quiet refl))
+      (can_stand event.Tick (event.Tick ∷ []) can (0, refl)) in
       in_right (tick_events w (is_quiet w)) event.Tick here (node_events w ++ plan_events w)
   listed_named (event.Memory id) recs a made listed can quiet = absurd (cc (made))
 
-  pub listed_possible : (e : Event) (recs : List Rec) (a : PartsAfter) → parts_after s e (map f (touches_of s e recs)) ≡ Some a → is_listed s e (map f (touches_of s e recs)) ≡ true
+  pub listed_possible : (e : Event) (recs : List Rec) (a : PartsAfter) → parts_after s e (map f (touches_of s e recs))
+      ≡ Some a → is_listed s e (map f (touches_of s e recs)) ≡ true
       → can_be w e ≡ true → (is_tick e ≡ true → is_quiet w ≡ true) → StandsIn (possible w) e
   listed_possible e recs a made listed can quiet =
-      subst (λ (es : List Event). StandsIn es e) (sym (ap (unless_broken w) shaped.unbroken)) (listed_named e recs a made listed can quiet)
+      subst (λ (es : List Event). StandsIn es e) (sym (ap (unless_broken w) shaped.unbroken))
+      (listed_named e recs a made listed can quiet)

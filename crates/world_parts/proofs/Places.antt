@@ -47,14 +47,16 @@ one_of (y ∷ ys) k x j is = by (λ i at. one_of ys k x i at) (node_cmp k y) j i
     later (inr at) = inr (suc at.0, at.1)
 
     by : ((i : ℕ) → slice_get (with_member node_cmp ys k) i ≡ Some x → (k ≡ x) ⊎ Stands ys x) → (r : Ordering) (j : ℕ)
-        → slice_get (match_ordering r (k ∷ y ∷ ys) (y ∷ ys) (y ∷ with_member node_cmp ys k)) j ≡ Some x → (k ≡ x) ⊎ Stands (y ∷ ys) x
+        → slice_get (match_ordering r (k ∷ y ∷ ys) (y ∷ ys) (y ∷ with_member node_cmp ys k)) j ≡ Some x → (k ≡ x)
+        ⊎ Stands (y ∷ ys) x
     by rest Less zero is = inl (some_is k x is)
     by rest Less (suc j) is = here j is
     by rest Equal j is = here j is
     by rest Greater zero is = here zero is
     by rest Greater (suc j) is = later (rest j is)
 
-member_of : (xs : List NodeId) (ms : List Member) (x : NodeId) (j : ℕ) → slice_get (node_set xs ms) j ≡ Some x → Stands xs x ⊎ Stands (map node_of ms) x
+member_of : (xs : List NodeId) (ms : List Member) (x : NodeId) (j : ℕ) → slice_get (node_set xs ms) j ≡ Some x → Stands xs x
+    ⊎ Stands (map node_of ms) x
 member_of xs [] x j is = inl (j, is)
 member_of xs (m ∷ ms) x j is = by (member_of (with_member node_cmp xs m.node) ms x j is)
   where
@@ -69,7 +71,8 @@ member_of xs (m ∷ ms) x j is = by (member_of (with_member node_cmp xs m.node) 
 -- who stands among members is one of them
 stands_member : (ms : List Member) (x : NodeId) (k : ℕ) → slice_get (map node_of ms) k ≡ Some x → is_member ms x ≡ true
 stands_member [] x k is = absurd (cc (is))
-stands_member (m ∷ ms) x zero is = subst (λ (n : NodeId). is_member (m ∷ ms) n ≡ true) (some_is m.node x is) (rw (same_node_itself m.node) refl)
+stands_member (m ∷ ms) x zero is = subst (λ (n : NodeId). is_member (m ∷ ms) n ≡ true) (some_is m.node x is)
+    (rw (same_node_itself m.node) refl)
 stands_member (m ∷ ms) x (suc k) is = rw (stands_member ms x k is) (or_true (same_node x m.node))
   where
     or_true : (c : Bool) → (c || true) ≡ true
@@ -82,7 +85,8 @@ joiners_same : (plan : List PlanStep) → flat_map joiner_of plan ≡ filter_map
 joiners_same [] = refl
 joiners_same (x ∷ xs) = by x.step (joiners_same xs)
   where
-    by : (st : Step) → flat_map joiner_of xs ≡ filter_map (λ planned. joining planned.step) xs → joins_in st ++ flat_map joiner_of xs ≡ cons_option (joining st) (filter_map (λ planned. joining planned.step) xs)
+    by : (st : Step) → flat_map joiner_of xs ≡ filter_map (λ planned. joining planned.step) xs →
+        joins_in st ++ flat_map joiner_of xs ≡ cons_option (joining st) (filter_map (λ planned. joining planned.step) xs)
     by (step.Join member) same = ap (λ (ms : List Member). member ∷ ms) same
     by (step.Lose id) same = same
     by (step.Hold from to) same = same
@@ -93,7 +97,8 @@ joiners_same (x ∷ xs) = by x.step (joiners_same xs)
 declared_are : (s : Scenario) → declared_nodes s ≡ members s
 declared_are s = ap (λ (ms : List Member). s.nodes ++ ms) (joiners_same s.plan)
 
-among : (x : Member) (ms : List Member) (k : ℕ) → slice_get (map node_of ms) k ≡ Some x.node → list_any (good.same_member_node x) ms ≡ true
+among : (x : Member) (ms : List Member) (k : ℕ) → slice_get (map node_of ms) k ≡ Some x.node →
+    list_any (good.same_member_node x) ms ≡ true
 among x [] k is = absurd (cc (is))
 among x (m ∷ ms) zero is = rw (here x m (some_is m.node x.node is)) refl
   where
@@ -109,7 +114,8 @@ twice : (b : Bool) → not b ≡ true → b ≡ true → ⊥
 twice true other same = absurd (cc (other))
 twice false other same = absurd (cc (same))
 
-once_in : (ms : List Member) (j k : ℕ) (x : NodeId) → are_distinct good.same_member_node ms ≡ true → slice_get (map node_of ms) j ≡ Some x → slice_get (map node_of ms) k ≡ Some x → j ≡ k
+once_in : (ms : List Member) (j k : ℕ) (x : NodeId) → are_distinct good.same_member_node ms ≡ true →
+    slice_get (map node_of ms) j ≡ Some x → slice_get (map node_of ms) k ≡ Some x → j ≡ k
 once_in [] j k x apart at_j at_k = absurd (cc (at_j))
 once_in (m ∷ ms) zero zero x apart at_j at_k = refl
 once_in (m ∷ ms) zero (suc k) x apart at_j at_k =
@@ -125,14 +131,19 @@ once_in (m ∷ ms) (suc j) (suc k) x apart at_j at_k =
     ap suc (once_in ms j k x both.1 at_j at_k)
 
 -- who stands at the place at which a number is found has this number
-pub found_there : (ids : List NodeId) (id : NodeId) (k : ℕ) → position (λ (x : NodeId). same_node x id) ids ≡ Some k → slice_get ids k ≡ Some id
+pub found_there : (ids : List NodeId) (id : NodeId) (k : ℕ) → position (λ (x : NodeId). same_node x id) ids ≡ Some k →
+    slice_get ids k ≡ Some id
 found_there ids id k found =
     let there = there_at ids k (position-Some (λ (x : NodeId). same_node x id) ids k id found).0 in
-    there.1 ∙ ap (λ (x : NodeId). Some x) (same_node_true there.0 id (first_passes (λ (x : NodeId). same_node x id) ids k there.0 found there.1))
+    there.1 ∙ ap (λ (x : NodeId). Some x)
+    (same_node_true there.0 id (first_passes (λ (x : NodeId). same_node x id) ids k there.0 found there.1))
 
 module _ (s : Scenario) (apart : are_distinct good.same_member_node (members s) ≡ true) where
-  pub declared_once : (j k : ℕ) (x : NodeId) → slice_get (declared_ids s) j ≡ Some x → slice_get (declared_ids s) k ≡ Some x → j ≡ k
-  declared_once j k x at_j at_k = once_in (declared_nodes s) j k x (subst (λ (ms : List Member). are_distinct good.same_member_node ms ≡ true) (sym (declared_are s)) apart) at_j at_k
+  pub declared_once : (j k : ℕ) (x : NodeId) → slice_get (declared_ids s) j ≡ Some x → slice_get (declared_ids s) k ≡ Some x →
+      j ≡ k
+  declared_once j k x at_j at_k =
+      once_in (declared_nodes s) j k x (subst (λ (ms : List Member). are_distinct good.same_member_node ms ≡ true)
+      (sym (declared_are s)) apart) at_j at_k
 
   pub place_declared : (k : ℕ) (x : NodeId) → slice_get (declared_ids s) k ≡ Some x → declared_place s x ≡ Some k
   place_declared k x is =
@@ -157,8 +168,10 @@ module _ (s : Scenario) (apart : are_distinct good.same_member_node (members s) 
       by (inr at) = at
 
   -- and no two
-  pub ranked_once : (j k : ℕ) (x y : NodeId) → slice_get (ids_of s) j ≡ Some x → slice_get (ids_of s) k ≡ Some y → same_node x y ≡ true → j ≡ k
+  pub ranked_once : (j k : ℕ) (x y : NodeId) → slice_get (ids_of s) j ≡ Some x → slice_get (ids_of s) k ≡ Some y →
+      same_node x y ≡ true → j ≡ k
   ranked_once j k x y at_j at_k same =
       let f = opening_part s (opening_map_of s) in
-      let stands = λ (i : ℕ) (z : NodeId) (is : slice_get (ids_of s) i ≡ Some z). slice_get-map f (ids_of s) i ∙ ap (option_map f) is in
+      let stands = λ (i : ℕ) (z : NodeId) (is : slice_get (ids_of s) i ≡ Some z). slice_get-map f (ids_of s) i
+      ∙ ap (option_map f) is in
       (opening_carries s apart).apart j k (f x) (f y) (stands j x at_j) (stands k y at_k) same

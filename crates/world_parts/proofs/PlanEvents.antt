@@ -50,11 +50,14 @@ told_past s f k (suc n) zero far = absurd (omega (arith, far))
 told_past s f k (suc n) (suc p) far = told_past s f (k + 1) n p (omega (arith, far))
 
 -- all values put in place of others
-put_all : (f g : ℕ → PartValue) (k n p : ℕ) → k ≤ p → p < k + n → with_values (numbers_from k n) (map g (numbers_from k n)) f p ≡ g p
+put_all : (f g : ℕ → PartValue) (k n p : ℕ) → k ≤ p → p < k + n →
+    with_values (numbers_from k n) (map g (numbers_from k n)) f p ≡ g p
 put_all f g k zero p from to = absurd (omega (arith, from, to))
 put_all f g k (suc n) p from to = by (λ above. put_all f g (k + 1) n p above (omega (arith, to))) (k == p) refl
   where
-    by : (k + 1 ≤ p → with_values (numbers_from (k + 1) n) (map g (numbers_from (k + 1) n)) f p ≡ g p) → (b : Bool) → (k == p) ≡ b → replay_or (if b then Some (g k) else held_at p (held_pairs (numbers_from (k + 1) n) (map g (numbers_from (k + 1) n)))) (f p) ≡ g p
+    by : (k + 1 ≤ p → with_values (numbers_from (k + 1) n) (map g (numbers_from (k + 1) n)) f p ≡ g p) → (b : Bool) →
+        (k == p) ≡ b → replay_or
+        (if b then Some (g k) else held_at p (held_pairs (numbers_from (k + 1) n) (map g (numbers_from (k + 1) n)))) (f p) ≡ g p
     by rest true same = ap g (grind (arith, nat_tests, same))
     by rest false other = rest (grind (arith, nat_tests, from, other))
 
@@ -62,7 +65,9 @@ put_past : (f g : ℕ → PartValue) (k n p : ℕ) → k + n ≤ p → with_valu
 put_past f g k zero p far = refl
 put_past f g k (suc n) p far = by (put_past f g (k + 1) n p (omega (arith, far))) (k == p) refl
   where
-    by : with_values (numbers_from (k + 1) n) (map g (numbers_from (k + 1) n)) f p ≡ f p → (b : Bool) → (k == p) ≡ b → replay_or (if b then Some (g k) else held_at p (held_pairs (numbers_from (k + 1) n) (map g (numbers_from (k + 1) n)))) (f p) ≡ f p
+    by : with_values (numbers_from (k + 1) n) (map g (numbers_from (k + 1) n)) f p ≡ f p → (b : Bool) → (k == p) ≡ b →
+        replay_or (if b then Some (g k) else held_at p (held_pairs (numbers_from (k + 1) n) (map g (numbers_from (k + 1) n))))
+        (f p) ≡ f p
     by rest true same = absurd (grind (arith, nat_tests, same, far))
     by rest false other = rest
 
@@ -86,7 +91,8 @@ within_or_past p n F below past = by (nat_le n p) refl
     by false t = below (grind (arith, nat_tests, t))
 
 -- what is made where a test is passed
-pub if_recs : (c : Bool) (news : List PartValue) (recs : List Rec) (a : PartsAfter) → after_if c news recs ≡ Some a → a.recs ≡ recs
+pub if_recs : (c : Bool) (news : List PartValue) (recs : List Rec) (a : PartsAfter) → after_if c news recs ≡ Some a →
+    a.recs ≡ recs
 if_recs true news recs a is = ap (λ (y : PartsAfter). y.recs) (sym (some_is (result news recs) a is))
 if_recs false news recs a is = absurd (cc (is))
 
@@ -103,9 +109,11 @@ module _ (s : Scenario) (apart : are_distinct good.same_member_node (members s) 
   values_put w w2 = λ i p. by p i
     where
       by : (p : ℕ) → parts_of s w2 p ≡ with_values (all_parts s) (map (parts_of s w2) (all_parts s)) (parts_of s w) p
-      by p = within_or_past p (part_count s) (parts_of s w2 p ≡ with_values (all_parts s) (map (parts_of s w2) (all_parts s)) (parts_of s w) p)
+      by p = within_or_past p (part_count s) (parts_of s w2 p ≡ with_values (all_parts s) (map (parts_of s w2) (all_parts s))
+          (parts_of s w) p)
           (λ below. sym (put_all (parts_of s w) (parts_of s w2) 0 (part_count s) p (omega arith) (omega (arith, below))))
-          (λ past. beyond_is s w2 p past ∙ sym (put_past (parts_of s w) (parts_of s w2) 0 (part_count s) p (omega (arith, past)) ∙ beyond_is s w p past))
+          (λ past. beyond_is s w2 p past
+          ∙ sym (put_past (parts_of s w) (parts_of s w2) 0 (part_count s) p (omega (arith, past)) ∙ beyond_is s w p past))
 
   module _ (w : World) (shaped : IsShaped s w) where
     abbrev f : ℕ → PartValue
@@ -115,16 +123,22 @@ module _ (s : Scenario) (apart : are_distinct good.same_member_node (members s) 
     whole_told = ap (world_of s) (values_told w) ∙ round s apart w shaped
 
     -- an event that touches all parts
-    whole : (e : Event) → (is_enabled w e ≡ true → IsShaped s (outcome w e).world) → Agrees s w (all_parts s) (is_enabled w e) (outcome w e) (after_whole s e (world_of s (value_in s (map f (all_parts s)))))
-    whole e kept = subst (λ (v : World). Agrees s w (all_parts s) (is_enabled w e) (outcome w e) (after_whole s e v)) (sym whole_told) (by (is_enabled w e) kept)
+    whole : (e : Event) → (is_enabled w e ≡ true → IsShaped s (outcome w e).world) →
+        Agrees s w (all_parts s) (is_enabled w e) (outcome w e)
+        (after_whole s e (world_of s (value_in s (map f (all_parts s)))))
+    whole e kept = subst (λ (v : World). Agrees s w (all_parts s) (is_enabled w e) (outcome w e) (after_whole s e v))
+        (sym whole_told) (by (is_enabled w e) kept)
       where
-        by : (c : Bool) → (c ≡ true → IsShaped s (outcome w e).world) → Agrees s w (all_parts s) c (outcome w e) (after_if c (map (parts_of s (outcome w e).world) (all_parts s)) (outcome w e).recs)
-        by true now = makes s w (all_parts s) (outcome w e) (result (map (parts_of s (outcome w e).world) (all_parts s)) (outcome w e).recs) (record {
-          same_recs = refl;
-          put_back = values_put w (outcome w e).world;
-          shaped = now refl;
-          counted = map_length (parts_of s (outcome w e).world) (all_parts s);
-        })
+        by : (c : Bool) → (c ≡ true → IsShaped s (outcome w e).world) →
+            Agrees s w (all_parts s) c (outcome w e) (after_if c (map (parts_of s (outcome w e).world) (all_parts s))
+            (outcome w e).recs)
+        by true now = makes s w (all_parts s) (outcome w e) (result (map (parts_of s (outcome w e).world) (all_parts s))
+            (outcome w e).recs) (record {
+              same_recs = refl;
+              put_back = values_put w (outcome w e).world;
+              shaped = now refl;
+              counted = map_length (parts_of s (outcome w e).world) (all_parts s);
+            })
         by false now = never s w (all_parts s) (outcome w e)
 
     -- The clock.
@@ -146,10 +160,12 @@ module _ (s : Scenario) (apart : are_distinct good.same_member_node (members s) 
 
     lost_shaped : (id : NodeId) (r : Option ℕ) (b : Option Inbox)
         → (let u = with_inbox_shut (record w { inboxes = inboxes_emptied id w.inboxes }) r b in
-        IsShaped s (with_directory (record u { parts = parts_after_loss id u.parts }) (with_step_done (with_event w.directory (topo.Left id)))))
+        IsShaped s (with_directory (record u { parts = parts_after_loss id u.parts })
+        (with_step_done (with_event w.directory (topo.Left id)))))
     lost_shaped id (Some r) (Some b) = record {
       numbers_are = same_all (part_after_loss id) (loss_me id) w.parts ∙ shaped.numbers_are;
-      inboxes_are = set_length (inboxes_emptied id w.inboxes) r (inbox_shut b) ∙ map_length (λ (inbox : Inbox). without_messages_of inbox id) w.inboxes ∙ shaped.inboxes_are;
+      inboxes_are = set_length (inboxes_emptied id w.inboxes) r (inbox_shut b)
+          ∙ map_length (λ (inbox : Inbox). without_messages_of inbox id) w.inboxes ∙ shaped.inboxes_are;
       homes_are = shaped.homes_are;
       plan_is = shaped.plan_is;
       unbroken = shaped.unbroken;
@@ -171,12 +187,14 @@ module _ (s : Scenario) (apart : are_distinct good.same_member_node (members s) 
 
     loss_shaped : (id : NodeId) (o : Option NoLoss) → IsShaped s (loss_outcome w id w.directory o).world
     loss_shaped id (Some refused) = directory_shaped s apart w shaped (with_step_done w.directory) refl
-    loss_shaped id None = lost_shaped id (place_of w id) (inbox_on (record w { inboxes = inboxes_emptied id w.inboxes }) (place_of w id))
+    loss_shaped id None = lost_shaped id (place_of w id) (inbox_on (record w { inboxes = inboxes_emptied id w.inboxes })
+        (place_of w id))
 
     -- The other steps.
 
     -- the directory alone changes
-    alone : (d : Directory) → d.plan ≡ w.directory.plan → Made s w (0 ∷ []) (plan_outcome_with w d None []) (result (part.Directory (with_step_done d) ∷ []) (note.Planned d.done None ∷ []))
+    alone : (d : Directory) → d.plan ≡ w.directory.plan → Made s w (0 ∷ []) (plan_outcome_with w d None [])
+        (result (part.Directory (with_step_done d) ∷ []) (note.Planned d.done None ∷ []))
     alone d plan = record {
       same_recs = refl;
       put_back = directory_set s apart w shaped (with_step_done d);
@@ -185,7 +203,8 @@ module _ (s : Scenario) (apart : are_distinct good.same_member_node (members s) 
     }
 
     with_box : (to : NodeId) (j : ℕ) (u : Standing s w to j) (b : Inbox)
-        → Made s w (0 ∷ inbox_part j ∷ []) (plan_outcome_with (with_inbox w u.r b) w.directory None []) (result (part.Directory (with_step_done w.directory) ∷ part.Inbox b ∷ []) (note.Planned w.directory.done None ∷ []))
+        → Made s w (0 ∷ inbox_part j ∷ []) (plan_outcome_with (with_inbox w u.r b) w.directory None [])
+        (result (part.Directory (with_step_done w.directory) ∷ part.Inbox b ∷ []) (note.Planned w.directory.done None ∷ []))
     with_box to j u b =
         let shaped1 = inbox_shaped s apart w shaped j u.r to u.declared u.rank b in
         let d = with_step_done w.directory in
@@ -200,13 +219,17 @@ module _ (s : Scenario) (apart : are_distinct good.same_member_node (members s) 
         }
 
     joined : (m : Member) (k : ℕ) (t : Standing s w m.node k)
-        → (let act = join_act t.node.node w.directory.events w.directory.clock (topo.Join m) in let d = with_step_done (directory_after_join w.directory m) in
+        → (let act = join_act t.node.node w.directory.events w.directory.clock (topo.Join m) in let d =
+        with_step_done (directory_after_join w.directory m) in
         Made s w (0 ∷ node_part k ∷ inbox_part k ∷ []) (join_outcome w m w.directory (Some t.r) (Some t.node))
-        (result (part.Directory d ∷ part.Node (record { node = act.state; life = life.Alive }) ∷ part.Inbox t.box ∷ []) (note.Planned w.directory.done None ∷ act.recs)))
+        (result (part.Directory d ∷ part.Node (record { node = act.state; life = life.Alive }) ∷ part.Inbox t.box ∷ [])
+        (note.Planned w.directory.done None ∷ act.recs)))
     joined m k t =
         let act = join_act t.node.node w.directory.events w.directory.clock (topo.Join m) in
         let q : Part = record { node = act.state; life = life.Alive } in
-        let me : q.node.me ≡ m.node = (acts.sees (after_learn_all t.node.node w.directory.events w.directory.clock) (topo.Join m)).0.same_me ∙ learned_me w.directory.events t.node.node ∙ t.me_is in
+        let me : q.node.me ≡ m.node =
+        (acts.sees (after_learn_all t.node.node w.directory.events w.directory.clock) (topo.Join m)).0.same_me
+        ∙ learned_me w.directory.events t.node.node ∙ t.me_is in
         let d = with_step_done (directory_after_join w.directory m) in
         let w1 : World = record w { parts = slice_set w.parts t.r q } in
         let shaped1 = node_shaped s apart w shaped k t.r m.node t.declared t.rank q me in
@@ -216,9 +239,11 @@ module _ (s : Scenario) (apart : are_distinct good.same_member_node (members s) 
               directory_set s apart w1 shaped1 d
               ∙ ap (with_values (0 ∷ []) (part.Directory d ∷ []))
               (node_set s apart w shaped k t.r m.node t.declared t.rank q me
-              ∙ ap (with_values (node_part k ∷ []) (part.Node q ∷ [])) (sym (same_value (inbox_part k) (part.Inbox t.box) f t.inbox_is))
+              ∙ ap (with_values (node_part k ∷ []) (part.Node q ∷ []))
+              (sym (same_value (inbox_part k) (part.Inbox t.box) f t.inbox_is))
               ∙ sym (values_cons (node_part k) (inbox_part k ∷ []) (part.Node q) (part.Inbox t.box ∷ []) f))
-              ∙ sym (values_cons 0 (node_part k ∷ inbox_part k ∷ []) (part.Directory d) (part.Node q ∷ part.Inbox t.box ∷ []) f);
+              ∙ sym (values_cons 0 (node_part k ∷ inbox_part k ∷ []) (part.Directory d) (part.Node q ∷ part.Inbox t.box ∷ [])
+              f);
           shaped = directory_shaped s apart w1 shaped1 d refl;
           counted = refl;
         }
@@ -229,8 +254,10 @@ module _ (s : Scenario) (apart : are_distinct good.same_member_node (members s) 
         → F (declared_place s id) (place_of w id) (part_on w (place_of w id)) (inbox_on w (place_of w id))
     each_place id F none there = by (declared_place s id) refl
       where
-        by : (o : Option ℕ) → declared_place s id ≡ o → F o (place_of w id) (part_on w (place_of w id)) (inbox_on w (place_of w id))
-        by None place = subst (λ (o : Option ℕ). F None o (part_on w o) (inbox_on w o)) (sym (nowhere s apart w shaped id place)) none
+        by : (o : Option ℕ) → declared_place s id ≡ o → F o (place_of w id) (part_on w (place_of w id))
+            (inbox_on w (place_of w id))
+        by None place = subst (λ (o : Option ℕ). F None o (part_on w o) (inbox_on w o))
+            (sym (nowhere s apart w shaped id place)) none
         by (Some k) place =
             let t = standing s apart w shaped id k place in
             subst (λ (o : Option ℕ). F (Some k) o (part_on w o) (inbox_on w o)) (sym t.here)
@@ -238,24 +265,34 @@ module _ (s : Scenario) (apart : are_distinct good.same_member_node (members s) 
             (subst (λ (o : Option Inbox). F (Some k) (Some t.r) (Some t.node) o) (sym t.box_at) (there k t)))
 
     joins : (m : Member) → (let place = place_of w m.node in let others = node_and_inbox (declared_place s m.node) in
-        Agrees s w (0 ∷ others) true (join_outcome w m w.directory place (part_on w place)) (after_join w.directory m (map f others)))
+        Agrees s w (0 ∷ others) true (join_outcome w m w.directory place (part_on w place))
+        (after_join w.directory m (map f others)))
     joins m =
-        each_place m.node (λ o place p b. let others = node_and_inbox o in Agrees s w (0 ∷ others) true (join_outcome w m w.directory place p) (after_join w.directory m (map f others)))
-        (makes s w (0 ∷ []) (plan_outcome_with w w.directory None []) (result (part.Directory (with_step_done w.directory) ∷ []) (note.Planned w.directory.done None ∷ [])) (alone w.directory refl))
+        each_place m.node (λ o place p b. let others = node_and_inbox o in
+        Agrees s w (0 ∷ others) true (join_outcome w m w.directory place p) (after_join w.directory m (map f others)))
+        (makes s w (0 ∷ []) (plan_outcome_with w w.directory None [])
+        (result (part.Directory (with_step_done w.directory) ∷ []) (note.Planned w.directory.done None ∷ []))
+        (alone w.directory refl))
         (λ k t.
         let act = join_act t.node.node w.directory.events w.directory.clock (topo.Join m) in
         let d = with_step_done (directory_after_join w.directory m) in
         rw (t.node_is, t.inbox_is)
         (makes s w (0 ∷ node_part k ∷ inbox_part k ∷ []) (join_outcome w m w.directory (Some t.r) (Some t.node))
-        (result (part.Directory d ∷ part.Node (record { node = act.state; life = life.Alive }) ∷ part.Inbox t.box ∷ []) (note.Planned w.directory.done None ∷ act.recs))
+        (result (part.Directory d ∷ part.Node (record { node = act.state; life = life.Alive }) ∷ part.Inbox t.box ∷ [])
+        (note.Planned w.directory.done None ∷ act.recs))
         (joined m k t)))
 
     holds : (from to : NodeId) (held : Bool) → (let place = place_of w to in let others = inbox_alone (declared_place s to) in
-        Agrees s w (0 ∷ others) true (plan_outcome_with (with_link_held w from held place (inbox_on w place)) w.directory None []) (after_hold w.directory from held (map f others)))
+        Agrees s w (0 ∷ others) true (plan_outcome_with (with_link_held w from held place (inbox_on w place)) w.directory None
+        []) (after_hold w.directory from held (map f others)))
     holds from to held =
         each_place to
-        (λ o place p b. let others = inbox_alone o in Agrees s w (0 ∷ others) true (plan_outcome_with (with_link_held w from held place b) w.directory None []) (after_hold w.directory from held (map f others)))
-        (makes s w (0 ∷ []) (plan_outcome_with w w.directory None []) (result (part.Directory (with_step_done w.directory) ∷ []) (note.Planned w.directory.done None ∷ [])) (alone w.directory refl))
+        (λ o place p b. let others = inbox_alone o in
+        Agrees s w (0 ∷ others) true (plan_outcome_with (with_link_held w from held place b) w.directory None [])
+        (after_hold w.directory from held (map f others)))
+        (makes s w (0 ∷ []) (plan_outcome_with w w.directory None [])
+        (result (part.Directory (with_step_done w.directory) ∷ []) (note.Planned w.directory.done None ∷ []))
+        (alone w.directory refl))
         (λ k t.
         let b = with_hold t.box from held in
         rw t.inbox_is
@@ -263,17 +300,21 @@ module _ (s : Scenario) (apart : are_distinct good.same_member_node (members s) 
         (result (part.Directory (with_step_done w.directory) ∷ part.Inbox b ∷ []) (note.Planned w.directory.done None ∷ []))
         (with_box to k t b)))
 
-    switches : (e : TopoEvent) → Agrees s w (0 ∷ []) true (plan_outcome_with w (with_event w.directory e) None []) (after_cache_step w.directory e [])
+    switches : (e : TopoEvent) → Agrees s w (0 ∷ []) true (plan_outcome_with w (with_event w.directory e) None [])
+        (after_cache_step w.directory e [])
     switches e =
         let d = with_event w.directory e in
-        makes s w (0 ∷ []) (plan_outcome_with w d None []) (result (part.Directory (with_step_done d) ∷ []) (note.Planned d.done None ∷ [])) (alone d refl)
+        makes s w (0 ∷ []) (plan_outcome_with w d None []) (result (part.Directory (with_step_done d) ∷ [])
+        (note.Planned d.done None ∷ [])) (alone d refl)
 
     -- The step at hand.
     module _ (x : PlanStep) (at_hand : next_step w.directory ≡ Some x) where
       -- it stands in the records
-      planned : (refused : Option NoLoss) (recs : List Rec) → step_in s (note.Planned w.directory.done refused ∷ recs) ≡ Some x.step
+      planned : (refused : Option NoLoss) (recs : List Rec) → step_in s (note.Planned w.directory.done refused ∷ recs)
+          ≡ Some x.step
       planned refused recs =
-          ap (λ (steps : List PlanStep). option_map (λ (y : PlanStep). y.step) (slice_get steps w.directory.done)) (sym shaped.plan_is)
+          ap (λ (steps : List PlanStep). option_map (λ (y : PlanStep). y.step) (slice_get steps w.directory.done))
+          (sym shaped.plan_is)
           ∙ ap (option_map (λ (y : PlanStep). y.step)) at_hand
 
       told : (v : World) (st : Step) → step_in s (step_outcome v w.directory st).recs ≡ Some x.step
@@ -316,59 +357,78 @@ module _ (s : Scenario) (apart : are_distinct good.same_member_node (members s) 
           ∙ ap (λ (o : Option PlanStep). true && is_due w.directory o && (true || is_quiet w)) at_hand
           ∙ ap (λ (b : Bool). true && b && (true || is_quiet w)) due
 
-      stepped : (st : Step) → x.step ≡ st → nat_le x.moment w.directory.clock ≡ true → Agrees s w (0 ∷ others st) true (step_outcome w w.directory st) (after_step s w.directory (map f (others st)) st)
+      stepped : (st : Step) → x.step ≡ st → nat_le x.moment w.directory.clock ≡ true →
+          Agrees s w (0 ∷ others st) true (step_outcome w w.directory st) (after_step s w.directory (map f (others st)) st)
       stepped (step.Join m) is due = joins m
       stepped (step.Lose id) is due =
-          let same : outcome w event.Plan ≡ step_outcome w w.directory (step.Lose id) = ap (plan_outcome w) at_hand ∙ ap (step_outcome w w.directory) is in
+          let same : outcome w event.Plan ≡ step_outcome w w.directory (step.Lose id) = ap (plan_outcome w) at_hand
+          ∙ ap (step_outcome w w.directory) is in
           let made = after_whole s event.Plan (world_of s (value_in s (map f (all_parts s)))) in
-          let kept = subst (λ (o : Outcome). IsShaped s o.world) (sym same) (loss_shaped id (refusal_of_loss w.directory id (best_map_without w id))) in
+          let kept = subst (λ (o : Outcome). IsShaped s o.world) (sym same)
+          (loss_shaped id (refusal_of_loss w.directory id (best_map_without w id))) in
           subst (λ (c : Bool). Agrees s w (all_parts s) c (step_outcome w w.directory (step.Lose id)) made) (now_enabled due)
-          (subst (λ (o : Outcome). Agrees s w (all_parts s) (is_enabled w event.Plan) o made) same (whole event.Plan (λ can. kept)))
+          (subst (λ (o : Outcome). Agrees s w (all_parts s) (is_enabled w event.Plan) o made) same
+          (whole event.Plan (λ can. kept)))
       stepped (step.Hold from to) is due = holds from to true
       stepped (step.Release from to) is due = holds from to false
       stepped (step.Start cache) is due = switches (topo.Start cache)
       stepped (step.Stop cache) is due = switches (topo.Stop cache)
 
-      by_due : (c : Bool) → nat_le x.moment w.directory.clock ≡ c → Agrees s w (0 ∷ others x.step) c (step_outcome w w.directory x.step) (if c then after_step s w.directory (map f (others x.step)) x.step else None)
+      by_due : (c : Bool) → nat_le x.moment w.directory.clock ≡ c →
+          Agrees s w (0 ∷ others x.step) c (step_outcome w w.directory x.step)
+          (if c then after_step s w.directory (map f (others x.step)) x.step else None)
       by_due true due = stepped x.step refl due
       by_due false early = never s w (0 ∷ others x.step) (step_outcome w w.directory x.step)
 
-      is_due_then : after_plan s (map f (0 ∷ others x.step)) ≡ (if nat_le x.moment w.directory.clock then after_step s w.directory (map f (others x.step)) x.step else None)
+      is_due_then : after_plan s (map f (0 ∷ others x.step))
+          ≡ (if nat_le x.moment w.directory.clock then after_step s w.directory (map f (others x.step)) x.step else None)
       is_due_then =
           ap (after_due s w.directory (map f (others x.step))) at_hand
-          ∙ ap (λ (o : Option PlanStep). if is_due w.directory o then after_step s w.directory (map f (others x.step)) x.step else None) at_hand
+          ∙ ap (λ (o : Option PlanStep). if is_due w.directory o then after_step s w.directory (map f (others x.step)) x.step
+          else None) at_hand
 
-      at_step : (let ps = parts_of_step s (step_in s (step_outcome w w.directory x.step).recs) in Agrees s w ps (nat_le x.moment w.directory.clock) (step_outcome w w.directory x.step) (after_plan s (map f ps)))
+      at_step : (let ps = parts_of_step s (step_in s (step_outcome w w.directory x.step).recs) in
+          Agrees s w ps (nat_le x.moment w.directory.clock) (step_outcome w w.directory x.step) (after_plan s (map f ps)))
       at_step =
-          subst (λ (ps : List ℕ). Agrees s w ps (nat_le x.moment w.directory.clock) (step_outcome w w.directory x.step) (after_plan s (map f ps)))
+          subst (λ (ps : List ℕ). Agrees s w ps (nat_le x.moment w.directory.clock) (step_outcome w w.directory x.step)
+          (after_plan s (map f ps)))
           (sym (ap (parts_of_step s) (told w x.step) ∙ all_of x.step))
-          (subst (Agrees s w (0 ∷ others x.step) (nat_le x.moment w.directory.clock) (step_outcome w w.directory x.step)) (sym is_due_then) (by_due (nat_le x.moment w.directory.clock) refl))
+          (subst (Agrees s w (0 ∷ others x.step) (nat_le x.moment w.directory.clock) (step_outcome w w.directory x.step))
+          (sym is_due_then) (by_due (nat_le x.moment w.directory.clock) refl))
 
       -- and no other step has these records
 
-      done_told : (d : Directory) (xs : List PartValue) (recs : List Rec) (a : PartsAfter) → step_done w.directory d xs recs ≡ Some a → step_in s a.recs ≡ Some x.step
+      done_told : (d : Directory) (xs : List PartValue) (recs : List Rec) (a : PartsAfter) →
+          step_done w.directory d xs recs ≡ Some a → step_in s a.recs ≡ Some x.step
       done_told d xs recs a is = ap (λ (y : PartsAfter). step_in s y.recs) (sym (some_is _ a is)) ∙ planned None recs
 
-      join_told : (m : Member) (xs : List PartValue) (a : PartsAfter) → after_join w.directory m xs ≡ Some a → step_in s a.recs ≡ Some x.step
+      join_told : (m : Member) (xs : List PartValue) (a : PartsAfter) → after_join w.directory m xs ≡ Some a →
+          step_in s a.recs ≡ Some x.step
       join_told m [] a is = done_told _ _ _ a is
       join_told m (part.Node p ∷ part.Inbox b ∷ []) a is = done_told _ _ _ a is
       join_told m _ a is = absurd (cc (is))
 
-      hold_told : (from : NodeId) (held : Bool) (xs : List PartValue) (a : PartsAfter) → after_hold w.directory from held xs ≡ Some a → step_in s a.recs ≡ Some x.step
+      hold_told : (from : NodeId) (held : Bool) (xs : List PartValue) (a : PartsAfter) →
+          after_hold w.directory from held xs ≡ Some a → step_in s a.recs ≡ Some x.step
       hold_told from held [] a is = done_told _ _ _ a is
       hold_told from held (part.Inbox b ∷ []) a is = done_told _ _ _ a is
       hold_told from held _ a is = absurd (cc (is))
 
-      cache_told : (e : TopoEvent) (xs : List PartValue) (a : PartsAfter) → after_cache_step w.directory e xs ≡ Some a → step_in s a.recs ≡ Some x.step
+      cache_told : (e : TopoEvent) (xs : List PartValue) (a : PartsAfter) → after_cache_step w.directory e xs ≡ Some a →
+          step_in s a.recs ≡ Some x.step
       cache_told e [] a is = done_told _ _ _ a is
       cache_told e (y ∷ ys) a is = absurd (cc (is))
 
-      loss_told : (xs : List PartValue) (a : PartsAfter) → after_whole s event.Plan (world_of s (value_in s (part.Directory w.directory ∷ xs))) ≡ Some a → step_in s a.recs ≡ Some x.step
+      loss_told : (xs : List PartValue) (a : PartsAfter) →
+          after_whole s event.Plan (world_of s (value_in s (part.Directory w.directory ∷ xs))) ≡ Some a →
+          step_in s a.recs ≡ Some x.step
       loss_told xs a is =
           let v = world_of s (value_in s (part.Directory w.directory ∷ xs)) in
-          ap (step_in s) (if_recs (is_enabled v event.Plan) _ _ a is) ∙ ap (λ (o : Option PlanStep). step_in s (plan_outcome v o).recs) at_hand ∙ told v x.step
+          ap (step_in s) (if_recs (is_enabled v event.Plan) _ _ a is)
+          ∙ ap (λ (o : Option PlanStep). step_in s (plan_outcome v o).recs) at_hand ∙ told v x.step
 
-      step_told : (xs : List PartValue) (st : Step) (a : PartsAfter) → after_step s w.directory xs st ≡ Some a → step_in s a.recs ≡ Some x.step
+      step_told : (xs : List PartValue) (st : Step) (a : PartsAfter) → after_step s w.directory xs st ≡ Some a →
+          step_in s a.recs ≡ Some x.step
       step_told xs (step.Join m) a is = join_told m xs a is
       step_told xs (step.Lose id) a is = loss_told xs a is
       step_told xs (step.Hold from to) a is = hold_told from true xs a is
@@ -376,34 +436,49 @@ module _ (s : Scenario) (apart : are_distinct good.same_member_node (members s) 
       step_told xs (step.Start cache) a is = cache_told (topo.Start cache) xs a is
       step_told xs (step.Stop cache) a is = cache_told (topo.Stop cache) xs a is
 
-    pub plans : (let ps = parts_of_step s (step_in s (outcome w event.Plan).recs) in Agrees s w ps (can_be w event.Plan) (outcome w event.Plan) (after_plan s (map f ps)))
+    pub plans : (let ps = parts_of_step s (step_in s (outcome w event.Plan).recs) in
+        Agrees s w ps (can_be w event.Plan) (outcome w event.Plan) (after_plan s (map f ps)))
     plans = by (next_step w.directory) refl
       where
-        by : (o : Option PlanStep) → next_step w.directory ≡ o → (let ps = parts_of_step s (step_in s (plan_outcome w o).recs) in Agrees s w ps (is_due w.directory o) (plan_outcome w o) (after_plan s (map f ps)))
+        by : (o : Option PlanStep) → next_step w.directory ≡ o →
+            (let ps = parts_of_step s (step_in s (plan_outcome w o).recs) in
+            Agrees s w ps (is_due w.directory o) (plan_outcome w o) (after_plan s (map f ps)))
         by None at_hand = never s w [] (unchanged w)
         by (Some x) at_hand = at_step x at_hand
 
     -- a group whose records are those of its event touches what these records say
-    pub plan_told : (recs : List Rec) (a : PartsAfter) → after_plan s (map f (parts_of_step s (step_in s recs))) ≡ Some a → a.recs ≡ recs → parts_of_step s (step_in s recs) ≡ parts_of_step s (step_in s (outcome w event.Plan).recs)
+    pub plan_told : (recs : List Rec) (a : PartsAfter) → after_plan s (map f (parts_of_step s (step_in s recs))) ≡ Some a →
+        a.recs ≡ recs → parts_of_step s (step_in s recs) ≡ parts_of_step s (step_in s (outcome w event.Plan).recs)
     plan_told recs a is same = by (step_in s recs) refl is
       where
-        due_told : (x : PlanStep) → next_step w.directory ≡ Some x → (xs : List PartValue) (c : Bool) → (if c then after_step s w.directory xs x.step else None) ≡ Some a → parts_of_step s (step_in s recs) ≡ parts_of_step s (step_in s (outcome w event.Plan).recs)
+        due_told : (x : PlanStep) → next_step w.directory ≡ Some x → (xs : List PartValue) (c : Bool) →
+            (if c then after_step s w.directory xs x.step else None) ≡ Some a →
+            parts_of_step s (step_in s recs) ≡ parts_of_step s (step_in s (outcome w event.Plan).recs)
         due_told x at_hand xs true made =
-            ap (parts_of_step s) (ap (step_in s) (sym same) ∙ step_told x at_hand xs x.step a made ∙ sym (told x at_hand w x.step) ∙ ap (λ (o : Option PlanStep). step_in s (plan_outcome w o).recs) (sym at_hand))
+            ap (parts_of_step s) (ap (step_in s) (sym same) ∙ step_told x at_hand xs x.step a made
+            ∙ sym (told x at_hand w x.step) ∙ ap (λ (o : Option PlanStep). step_in s (plan_outcome w o).recs) (sym at_hand))
         due_told x at_hand xs false made = absurd (cc (made))
 
-        hand_told : (o : Option PlanStep) → next_step w.directory ≡ o → (xs : List PartValue) → after_due s w.directory xs o ≡ Some a → parts_of_step s (step_in s recs) ≡ parts_of_step s (step_in s (outcome w event.Plan).recs)
+        hand_told : (o : Option PlanStep) → next_step w.directory ≡ o → (xs : List PartValue) →
+            after_due s w.directory xs o ≡ Some a → parts_of_step s (step_in s recs) ≡ parts_of_step s
+            (step_in s (outcome w event.Plan).recs)
         hand_told None at_hand xs made = absurd (cc (made))
         hand_told (Some x) at_hand xs made = due_told x at_hand xs (step_due w.directory) made
 
-        head_told : (st : Step) → after_plan s (map f (parts_of_step s (Some st))) ≡ Some a → parts_of_step s (step_in s recs) ≡ parts_of_step s (step_in s (outcome w event.Plan).recs)
-        head_told (step.Join m) made = hand_told (next_step w.directory) refl (map f (node_and_inbox (declared_place s m.node))) made
-        head_told (step.Lose id) made = hand_told (next_step w.directory) refl (map f (numbers_from 1 (2 * length (declared_ids s)))) made
-        head_told (step.Hold from to) made = hand_told (next_step w.directory) refl (map f (inbox_alone (declared_place s to))) made
-        head_told (step.Release from to) made = hand_told (next_step w.directory) refl (map f (inbox_alone (declared_place s to))) made
+        head_told : (st : Step) → after_plan s (map f (parts_of_step s (Some st))) ≡ Some a →
+            parts_of_step s (step_in s recs) ≡ parts_of_step s (step_in s (outcome w event.Plan).recs)
+        head_told (step.Join m) made =
+            hand_told (next_step w.directory) refl (map f (node_and_inbox (declared_place s m.node))) made
+        head_told (step.Lose id) made =
+            hand_told (next_step w.directory) refl (map f (numbers_from 1 (2 * length (declared_ids s)))) made
+        head_told (step.Hold from to) made =
+            hand_told (next_step w.directory) refl (map f (inbox_alone (declared_place s to))) made
+        head_told (step.Release from to) made =
+            hand_told (next_step w.directory) refl (map f (inbox_alone (declared_place s to))) made
         head_told (step.Start cache) made = hand_told (next_step w.directory) refl [] made
         head_told (step.Stop cache) made = hand_told (next_step w.directory) refl [] made
 
-        by : (o : Option Step) → step_in s recs ≡ o → after_plan s (map f (parts_of_step s o)) ≡ Some a → parts_of_step s (step_in s recs) ≡ parts_of_step s (step_in s (outcome w event.Plan).recs)
+        by : (o : Option Step) → step_in s recs ≡ o → after_plan s (map f (parts_of_step s o)) ≡ Some a →
+            parts_of_step s (step_in s recs) ≡ parts_of_step s (step_in s (outcome w event.Plan).recs)
         by None none made = absurd (cc (made))
         by (Some st) some made = head_told st made

@@ -64,8 +64,10 @@ module _ (s : Scenario) (apart : are_distinct scenarios.same_member_node (member
     agrees : (e : Event) → is_of_parts e ≡ true → AgreesAt e (touches_of s e (outcome w e).recs) (is_enabled w e)
     agrees (event.Answer session) of =
         as_enabled (event.Answer session) _ refl
-        (subst (λ (h : Option NodeId). AgreesAt (event.Answer session) (directory_and_node (option_and_then (declared_place s) h)) (can_be w (event.Answer session)))
-        (ap (λ (homes : List (ℕ × NodeId)). at nat_cmp homes session) shaped.homes_are) (answers s apart w shaped session (session_node w session)))
+        (subst (λ (h : Option NodeId). AgreesAt (event.Answer session)
+        (directory_and_node (option_and_then (declared_place s) h)) (can_be w (event.Answer session)))
+        (ap (λ (homes : List (ℕ × NodeId)). at nat_cmp homes session) shaped.homes_are)
+        (answers s apart w shaped session (session_node w session)))
     agrees (event.Act id from) of = as_enabled (event.Act id from) _ refl (takes s apart w shaped id from)
     agrees (event.Send id) of = as_enabled (event.Send id) _ refl (sends s apart w shaped id)
     agrees (event.See id) of = as_enabled (event.See id) _ refl (sees s apart w shaped id)
@@ -73,8 +75,10 @@ module _ (s : Scenario) (apart : are_distinct scenarios.same_member_node (member
     agrees (event.Minor id) of = as_enabled (event.Minor id) _ refl (switches s apart w shaped id)
     agrees (event.Call session) of =
         as_enabled (event.Call session) _ refl
-        (subst (λ (h : Option NodeId). AgreesAt (event.Call session) (node_alone (option_and_then (declared_place s) h)) (can_be w (event.Call session)))
-        (ap (λ (homes : List (ℕ × NodeId)). at nat_cmp homes session) shaped.homes_are) (calls s apart w shaped session (session_node w session)))
+        (subst (λ (h : Option NodeId). AgreesAt (event.Call session) (node_alone (option_and_then (declared_place s) h))
+        (can_be w (event.Call session)))
+        (ap (λ (homes : List (ℕ × NodeId)). at nat_cmp homes session) shaped.homes_are)
+        (calls s apart w shaped session (session_node w session)))
     agrees event.Plan of = as_enabled event.Plan _ refl (plans s apart w shaped)
     agrees event.Tick of = ticks s apart w shaped
     agrees (event.Memory id) of = absurd (cc (of))
@@ -84,42 +88,60 @@ module _ (s : Scenario) (apart : are_distinct scenarios.same_member_node (member
     abbrev addressee : List Rec → Option ℕ
     addressee recs = option_and_then (declared_place s) (addressee_in recs)
 
-    made_of_send : (p : Part) (news : List PartValue) (a : PartsAfter) → after_send_of p news ≡ Some a → (is_alive p.life ≡ true) × (a.recs ≡ (send_act p.node).recs)
+    made_of_send : (p : Part) (news : List PartValue) (a : PartsAfter) → after_send_of p news ≡ Some a →
+        (is_alive p.life ≡ true) × (a.recs ≡ (send_act p.node).recs)
     made_of_send p news a is =
-        let can = if_test (is_alive p.life && may_send p.node) news (send_act p.node).recs a is in
-        ((first_rest (is_alive p.life) (may_send p.node) can).0, if_recs (is_alive p.life && may_send p.node) news (send_act p.node).recs a is)
+        let can = if_test (is_alive p.life && may_send p.node) news (send_act p.node).recs a is in (
+          (first_rest (is_alive p.life) (may_send p.node) can).0,
+          if_recs (is_alive p.life && may_send p.node) news
+              (send_act p.node).recs a is,
+        )
 
     -- what a node sends stands in the records, whatever the addressee
-    sent_told : (id : NodeId) (k : ℕ) (t : Standing s w id k) (to : Option NodeId) (a : PartsAfter) → after_send (map f (node_and_addressee (Some k) (option_and_then (declared_place s) to))) ≡ Some a
+    sent_told : (id : NodeId) (k : ℕ) (t : Standing s w id k) (to : Option NodeId) (a : PartsAfter) →
+        after_send (map f (node_and_addressee (Some k) (option_and_then (declared_place s) to))) ≡ Some a
         → (is_alive t.node.life ≡ true) × (a.recs ≡ (send_act t.node.node).recs)
     sent_told id k t to a made = by to made
       where
-        alone : after_send (f (node_part k) ∷ []) ≡ Some a → (is_alive t.node.life ≡ true) × (a.recs ≡ (send_act t.node.node).recs)
+        alone : after_send (f (node_part k) ∷ []) ≡ Some a → (is_alive t.node.life ≡ true)
+            × (a.recs ≡ (send_act t.node.node).recs)
         alone made = made_of_send t.node _ a (subst (λ (x : PartValue). after_send (x ∷ []) ≡ Some a) t.node_is made)
 
-        ordered : (to : NodeId) (j : ℕ) (u : Standing s w to j) (c : Bool) → after_send (map f (if c then inbox_part j ∷ node_part k ∷ [] else node_part k ∷ inbox_part j ∷ [])) ≡ Some a
+        ordered : (to : NodeId) (j : ℕ) (u : Standing s w to j) (c : Bool) →
+            after_send (map f (if c then inbox_part j ∷ node_part k ∷ [] else node_part k ∷ inbox_part j ∷ [])) ≡ Some a
             → (is_alive t.node.life ≡ true) × (a.recs ≡ (send_act t.node.node).recs)
-        ordered to j u true made = made_of_send t.node _ a (subst (λ (x : PartValue). after_send (part.Inbox u.box ∷ x ∷ []) ≡ Some a) t.node_is (subst (λ (x : PartValue). after_send (x ∷ f (node_part k) ∷ []) ≡ Some a) u.inbox_is made))
-        ordered to j u false made = made_of_send t.node _ a (subst (λ (x : PartValue). after_send (part.Node t.node ∷ x ∷ []) ≡ Some a) u.inbox_is (subst (λ (x : PartValue). after_send (x ∷ f (inbox_part j) ∷ []) ≡ Some a) t.node_is made))
+        ordered to j u true made =
+            made_of_send t.node _ a (subst (λ (x : PartValue). after_send (part.Inbox u.box ∷ x ∷ []) ≡ Some a) t.node_is
+            (subst (λ (x : PartValue). after_send (x ∷ f (node_part k) ∷ []) ≡ Some a) u.inbox_is made))
+        ordered to j u false made =
+            made_of_send t.node _ a (subst (λ (x : PartValue). after_send (part.Node t.node ∷ x ∷ []) ≡ Some a) u.inbox_is
+            (subst (λ (x : PartValue). after_send (x ∷ f (inbox_part j) ∷ []) ≡ Some a) t.node_is made))
 
-        reached : (to : NodeId) (o : Option ℕ) → declared_place s to ≡ o → after_send (map f (node_and_addressee (Some k) o)) ≡ Some a → (is_alive t.node.life ≡ true) × (a.recs ≡ (send_act t.node.node).recs)
+        reached : (to : NodeId) (o : Option ℕ) → declared_place s to ≡ o → after_send (map f (node_and_addressee (Some k) o))
+            ≡ Some a → (is_alive t.node.life ≡ true) × (a.recs ≡ (send_act t.node.node).recs)
         reached to None place made = alone made
         reached to (Some j) place made = ordered to j (standing s apart w shaped to j place) (nat_lt j k) made
 
-        by : (o : Option NodeId) → after_send (map f (node_and_addressee (Some k) (option_and_then (declared_place s) o))) ≡ Some a → (is_alive t.node.life ≡ true) × (a.recs ≡ (send_act t.node.node).recs)
+        by : (o : Option NodeId) → after_send (map f (node_and_addressee (Some k) (option_and_then (declared_place s) o)))
+            ≡ Some a → (is_alive t.node.life ≡ true) × (a.recs ≡ (send_act t.node.node).recs)
         by None made = alone made
         by (Some to) made = reached to (declared_place s to) refl made
 
-    send_told : (id : NodeId) (recs : List Rec) (a : PartsAfter) → after_send (map f (node_and_addressee (declared_place s id) (addressee recs))) ≡ Some a → a.recs ≡ recs → recs ≡ (outcome w (event.Send id)).recs
+    send_told : (id : NodeId) (recs : List Rec) (a : PartsAfter) →
+        after_send (map f (node_and_addressee (declared_place s id) (addressee recs))) ≡ Some a → a.recs ≡ recs →
+        recs ≡ (outcome w (event.Send id)).recs
     send_told id recs a is same =
-        each_node s apart w shaped id (λ o place p. after_send (map f (node_and_addressee o (addressee recs))) ≡ Some a → recs ≡ (send_outcome w place p).recs)
+        each_node s apart w shaped id (λ o place p. after_send (map f (node_and_addressee o (addressee recs))) ≡ Some a →
+        recs ≡ (send_outcome w place p).recs)
         (λ none. absurd (cc (none)))
         (λ k t away made. let alive = (sent_told id k t (addressee_in recs) a made).0 in absurd (cc (away, alive)))
         (λ k t alive made. sym same ∙ (sent_told id k t (addressee_in recs) a made).1)
         is
 
-    told : (e : Event) (recs : List Rec) (a : PartsAfter) → parts_after s e (map f (touches_of s e recs)) ≡ Some a → a.recs ≡ recs → touches_of s e recs ≡ touches_of s e (outcome w e).recs
-    told (event.Send id) recs a is same = ap (λ (rs : List Rec). node_and_addressee (declared_place s id) (addressee rs)) (send_told id recs a is same)
+    told : (e : Event) (recs : List Rec) (a : PartsAfter) → parts_after s e (map f (touches_of s e recs)) ≡ Some a →
+        a.recs ≡ recs → touches_of s e recs ≡ touches_of s e (outcome w e).recs
+    told (event.Send id) recs a is same = ap (λ (rs : List Rec). node_and_addressee (declared_place s id) (addressee rs))
+        (send_told id recs a is same)
     told event.Plan recs a is same = plan_told s apart w shaped recs a is same
     told (event.Answer session) recs a is same = refl
     told (event.Act id from) recs a is same = refl
@@ -150,12 +172,14 @@ module _ (s : Scenario) (apart : are_distinct scenarios.same_member_node (member
       pub of_parts_only : is_of_parts g.event ≡ true
 
     -- from a step of parts to the machine
-    pub leads : (g : Group) (news : List PartValue) → parts_after s g.event (touched_values s g f) ≡ Some (result news g.recs) → Leads g news
+    pub leads : (g : Group) (news : List PartValue) → parts_after s g.event (touched_values s g f)
+        ≡ Some (result news g.recs) → Leads g news
     leads g news related =
         let a = result news g.recs in
         let of = of_parts g.event (touched_values s g f) a related in
         let same = told g.event g.recs a related refl in
-        let agreed : AgreesAt g.event (touches s g) (is_enabled w g.event) = subst (λ (ps : List ℕ). AgreesAt g.event ps (is_enabled w g.event)) (sym same) (agrees g.event of) in
+        let agreed : AgreesAt g.event (touches s g) (is_enabled w g.event) =
+        subst (λ (ps : List ℕ). AgreesAt g.event ps (is_enabled w g.event)) (sym same) (agrees g.event of) in
         let made = agreed.made a related in
         record {
           is_step = record { possible_event = sym agreed.possible ∙ ap is_some related; same_records = made.same_recs };
@@ -167,18 +191,22 @@ module _ (s : Scenario) (apart : are_distinct scenarios.same_member_node (member
     pub whole_step : (g : Group) (news : List PartValue) → Relates s g (touched_values s g f) news → IsWholeStep s w g news
     whole_step g news related =
         let led = leads g news related.made in
-        let can = first_rest (not w.broken && can_be w g.event) (not (is_tick g.event) || is_quiet w) led.is_step.possible_event in
+        let can = first_rest (not w.broken && can_be w g.event) (not (is_tick g.event)
+        || is_quiet w) led.is_step.possible_event in
         record {
           is_step = led.is_step;
-          is_named = listed_possible s apart w shaped g.event g.recs (result news g.recs) related.made related.listed (first_rest (not w.broken) (can_be w g.event) can.0).1
+          is_named = listed_possible s apart w shaped g.event g.recs (result news g.recs) related.made related.listed
+              (first_rest (not w.broken) (can_be w g.event) can.0).1
               (λ tick. sym (ap (λ (b : Bool). not b || is_quiet w) tick) ∙ can.1);
           put_back = led.put_back;
         }
 
     -- and back
-    pub follows : (g : Group) → is_of_parts g.event ≡ true → IsStep w g → parts_after s g.event (touched_values s g f) ≡ Some (result (touched_values s g (parts_of s (outcome w g.event).world)) g.recs)
+    pub follows : (g : Group) → is_of_parts g.event ≡ true → IsStep w g → parts_after s g.event (touched_values s g f)
+        ≡ Some (result (touched_values s g (parts_of s (outcome w g.event).world)) g.recs)
     follows g of step =
-        subst (λ (rs : List Rec). parts_after s g.event (map f (touches_of s g.event rs)) ≡ Some (result (map (parts_of s o.world) (touches_of s g.event rs)) rs)) (sym step.same_records)
+        subst (λ (rs : List Rec). parts_after s g.event (map f (touches_of s g.event rs))
+        ≡ Some (result (map (parts_of s o.world) (touches_of s g.event rs)) rs)) (sym step.same_records)
         (by (parts_after s g.event (map f ps)) refl)
       where
         o : Outcome
@@ -190,14 +218,16 @@ module _ (s : Scenario) (apart : are_distinct scenarios.same_member_node (member
         agreed : AgreesAt g.event ps (is_enabled w g.event)
         agreed = agrees g.event of
 
-        by : (r : Option PartsAfter) → parts_after s g.event (map f ps) ≡ r → parts_after s g.event (map f ps) ≡ Some (result (map (parts_of s o.world) ps) o.recs)
+        by : (r : Option PartsAfter) → parts_after s g.event (map f ps) ≡ r →
+            parts_after s g.event (map f ps) ≡ Some (result (map (parts_of s o.world) ps) o.recs)
         by None is = let possible = agreed.possible ∙ step.possible_event in absurd (nothing (ap is_some (sym is) ∙ possible))
           where
             nothing : false ≡ true → ⊥
             nothing e = absurd (cc (e))
         by (Some a) is =
             let made = agreed.made a is in
-            let news : a.news ≡ map (parts_of s o.world) ps = sym (ap (λ (h : ℕ → PartValue). map h ps) made.put_back ∙ read_touched s g.event o.recs a.news f made.counted) in
+            let news : a.news ≡ map (parts_of s o.world) ps = sym (ap (λ (h : ℕ → PartValue). map h ps) made.put_back
+            ∙ read_touched s g.event o.recs a.news f made.counted) in
             is ∙ λ i. Some (record { news = news i; recs = made.same_recs i })
 
   -- From the opening on.
@@ -215,7 +245,8 @@ module _ (s : Scenario) (apart : are_distinct scenarios.same_member_node (member
     unbroken = refl;
   }
 
-  pub run_shaped : (w : World) → IsShaped s w → (gs : List Group) → AreSteps w gs → list_all (λ (g : Group). is_of_parts g.event) gs ≡ true → IsShaped s (world_after w gs)
+  pub run_shaped : (w : World) → IsShaped s w → (gs : List Group) → AreSteps w gs →
+      list_all (λ (g : Group). is_of_parts g.event) gs ≡ true → IsShaped s (world_after w gs)
   run_shaped w shaped [] steps of = shaped
   run_shaped w shaped (g ∷ gs) steps of =
       let both = first_rest (is_of_parts g.event) (list_all (λ (x : Group). is_of_parts x.event) gs) of in
@@ -228,15 +259,18 @@ module _ (s : Scenario) (apart : are_distinct scenarios.same_member_node (member
     pub shaped : IsShaped s (world_after w (groups_of log))
     pub values : replay_from (rules_of s) (parts_of s w) log ≡ parts_of s (world_after w (groups_of log))
 
-  pub history_runs : (w : World) → IsShaped s w → (log : List (Entry PartValue Group)) → legal_from (rules_of s) (parts_of s w) log → Runs w log
+  pub history_runs : (w : World) → IsShaped s w → (log : List (Entry PartValue Group)) →
+      legal_from (rules_of s) (parts_of s w) log → Runs w log
   history_runs w shaped [] legal = record { steps = tt; of_parts = refl; shaped = shaped; values = refl }
   history_runs w shaped (e ∷ es) legal =
       let next = leads w shaped e.event e.news legal.0.1.made in
       let back = next.put_back in
-      let rest = history_runs (outcome w e.event.event).world next.still_shaped es (subst (λ (h : ℕ → PartValue). legal_from (rules_of s) h es) (sym back) legal.1) in
+      let rest = history_runs (outcome w e.event.event).world next.still_shaped es
+      (subst (λ (h : ℕ → PartValue). legal_from (rules_of s) h es) (sym back) legal.1) in
       record {
         steps = (next.is_step, rest.steps);
-        of_parts = ap (λ (b : Bool). b && list_all (λ (g : Group). is_of_parts g.event) (groups_of es)) next.of_parts_only ∙ rest.of_parts;
+        of_parts = ap (λ (b : Bool). b && list_all (λ (g : Group). is_of_parts g.event) (groups_of es)) next.of_parts_only
+            ∙ rest.of_parts;
         shaped = rest.shaped;
         values = ap (λ (h : ℕ → PartValue). replay_from (rules_of s) h es) (sym back) ∙ rest.values;
       }
@@ -244,24 +278,31 @@ module _ (s : Scenario) (apart : are_distinct scenarios.same_member_node (member
 -- a good scenario declares no node twice
 pub good_apart : (s : Scenario) → IsTrue (good s) → are_distinct scenarios.same_member_node (members s) ≡ true
 good_apart s is_good =
-    let all = first_rest (good_format s.format s.caches && good_caches s.caches && good_nodes s && good_plan s) (good_sessions s) is_good in
+    let all = first_rest (good_format s.format s.caches && good_caches s.caches && good_nodes s && good_plan s)
+    (good_sessions s) is_good in
     let four = first_rest (good_format s.format s.caches && good_caches s.caches && good_nodes s) (good_plan s) all.0 in
     links.nodes_apart s (first_rest (good_format s.format s.caches && good_caches s.caches) (good_nodes s) four.0).1
 
 pub shaped_at : (s : Scenario) (gs : List Group) → IsRunOfParts s gs → IsShaped s (world_at s gs)
-shaped_at s gs run = let apart = good_apart s run.is_good in run_shaped s apart (opening s) (opening_shaped s apart) gs run.steps run.of_parts
+shaped_at s gs run = let apart = good_apart s run.is_good in
+    run_shaped s apart (opening s) (opening_shaped s apart) gs run.steps run.of_parts
 
 -- the world of a run is the one of its parts
 pub worlds_round : (s : Scenario) (gs : List Group) → IsRunOfParts s gs → world_of s (values_at s gs) ≡ world_at s gs
 worlds_round s gs run = round s (good_apart s run.is_good) (world_at s gs) (shaped_at s gs run)
 
-pub step_of_machine : (s : Scenario) (gs : List Group) (g : Group) (news : List PartValue) → IsRunOfParts s gs → Relates s g (touched_values s g (values_at s gs)) news → IsWholeStep s (world_at s gs) g news
-step_of_machine s gs g news run related = whole_step s (good_apart s run.is_good) (world_at s gs) (shaped_at s gs run) g news related
+pub step_of_machine : (s : Scenario) (gs : List Group) (g : Group) (news : List PartValue) → IsRunOfParts s gs →
+    Relates s g (touched_values s g (values_at s gs)) news → IsWholeStep s (world_at s gs) g news
+step_of_machine s gs g news run related = whole_step s (good_apart s run.is_good) (world_at s gs) (shaped_at s gs run) g news
+    related
 
-pub step_of_parts : (s : Scenario) (gs : List Group) (g : Group) → IsRunOfParts s gs → is_of_parts g.event ≡ true → IsStep (world_at s gs) g
+pub step_of_parts : (s : Scenario) (gs : List Group) (g : Group) → IsRunOfParts s gs → is_of_parts g.event ≡ true →
+    IsStep (world_at s gs) g
     → is_listed s g.event (touched_values s g (values_at s gs)) ≡ true
-    → Relates s g (touched_values s g (values_at s gs)) (touched_values s g (parts_of s (outcome (world_at s gs) g.event).world))
-step_of_parts s gs g run of step listed = record { made = follows s (good_apart s run.is_good) (world_at s gs) (shaped_at s gs run) g of step; listed = listed }
+    → Relates s g (touched_values s g (values_at s gs))
+    (touched_values s g (parts_of s (outcome (world_at s gs) g.event).world))
+step_of_parts s gs g run of step listed =
+    record { made = follows s (good_apart s run.is_good) (world_at s gs) (shaped_at s gs run) g of step; listed = listed }
 
 -- an event is possible by the values of its parts where the machine says so
 pub possible_same : (s : Scenario) (gs : List Group) (e : Event) → IsRunOfParts s gs → is_of_parts e ≡ true
@@ -269,19 +310,23 @@ pub possible_same : (s : Scenario) (gs : List Group) (e : Event) → IsRunOfPart
 possible_same s gs e run of = (agrees s (good_apart s run.is_good) (world_at s gs) (shaped_at s gs run) e of).possible
 
 -- an event reads no other part
-pub reads_no_other : (s : Scenario) (gs hs : List Group) (g : Group) → IsRunOfParts s gs → IsRunOfParts s hs → is_of_parts g.event ≡ true
-    → touched_values s g (values_at s gs) ≡ touched_values s g (values_at s hs) → IsStep (world_at s gs) g → IsStep (world_at s hs) g
+pub reads_no_other : (s : Scenario) (gs hs : List Group) (g : Group) → IsRunOfParts s gs → IsRunOfParts s hs →
+    is_of_parts g.event ≡ true
+    → touched_values s g (values_at s gs) ≡ touched_values s g (values_at s hs) → IsStep (world_at s gs) g →
+    IsStep (world_at s hs) g
 reads_no_other s gs hs g run other of same step =
     let after = touched_values s g (parts_of s (outcome (world_at s gs) g.event).world) in
     let made = follows s (good_apart s run.is_good) (world_at s gs) (shaped_at s gs run) g of step in
     let made_too = subst (λ (olds : List PartValue). parts_after s g.event olds ≡ Some (result after g.recs)) same made in
     (leads s (good_apart s other.is_good) (world_at s hs) (shaped_at s hs other) g after made_too).is_step
 
-pub history_is_run : (s : Scenario) (log : List (Entry PartValue Group)) → IsTrue (good s) → history.IsLegal (rules_of s) log → IsRunOfHistory s log
+pub history_is_run : (s : Scenario) (log : List (Entry PartValue Group)) → IsTrue (good s) →
+    history.IsLegal (rules_of s) log → IsRunOfHistory s log
 history_is_run s log is_good legal =
     let apart = good_apart s is_good in
     let runs = history_runs s apart (opening s) (opening_shaped s apart) log legal in
-    let world : world_of s (history.replay (rules_of s) log) ≡ world_at s (groups_of log) = ap (world_of s) runs.values ∙ round s apart (world_at s (groups_of log)) runs.shaped in
+    let world : world_of s (history.replay (rules_of s) log) ≡ world_at s (groups_of log) = ap (world_of s) runs.values
+    ∙ round s apart (world_at s (groups_of log)) runs.shaped in
     record {
       run = record { is_good = is_good; steps = runs.steps; of_parts = runs.of_parts };
       values = runs.values;

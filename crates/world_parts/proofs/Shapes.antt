@@ -38,7 +38,8 @@ twice_suc : (j : ℕ) → 2 * suc j ≡ suc (suc (2 * j))
 twice_suc j = omega arith
 
 -- a statement of all numbers: those of nodes, those of inboxes, and those beyond
-each_pair : (ids : List NodeId) (F : ℕ → Type 0) → ((j : ℕ) (id : NodeId) → slice_get ids j ≡ Some id → F (2 * j)) → ((j : ℕ) (id : NodeId) → slice_get ids j ≡ Some id → F (suc (2 * j)))
+each_pair : (ids : List NodeId) (F : ℕ → Type 0) → ((j : ℕ) (id : NodeId) → slice_get ids j ≡ Some id → F (2 * j)) →
+    ((j : ℕ) (id : NodeId) → slice_get ids j ≡ Some id → F (suc (2 * j)))
     → ((p : ℕ) → 2 * length ids ≤ p → F p) → (p : ℕ) → F p
 each_pair [] F nodes inboxes beyond p = beyond p (omega arith)
 each_pair (x ∷ xs) F nodes inboxes beyond zero = nodes 0 x refl
@@ -51,12 +52,14 @@ each_pair (x ∷ xs) F nodes inboxes beyond (suc (suc p)) =
     p
 
 module _ (s : Scenario) (f : NodeId → Part) (g : NodeId → Inbox) where
-  node_value : (ids : List NodeId) (j : ℕ) (id : NodeId) → slice_get ids j ≡ Some id → pair_values s f g ids (2 * j) ≡ part.Node (f id)
+  node_value : (ids : List NodeId) (j : ℕ) (id : NodeId) → slice_get ids j ≡ Some id →
+      pair_values s f g ids (2 * j) ≡ part.Node (f id)
   node_value [] j id is = absurd (cc (is))
   node_value (x ∷ xs) zero id is = ap (λ (n : NodeId). part.Node (f n)) (some_is x id is)
   node_value (x ∷ xs) (suc j) id is = ap (pair_values s f g (x ∷ xs)) (twice_suc j) ∙ node_value xs j id is
 
-  inbox_value : (ids : List NodeId) (j : ℕ) (id : NodeId) → slice_get ids j ≡ Some id → pair_values s f g ids (suc (2 * j)) ≡ part.Inbox (g id)
+  inbox_value : (ids : List NodeId) (j : ℕ) (id : NodeId) → slice_get ids j ≡ Some id →
+      pair_values s f g ids (suc (2 * j)) ≡ part.Inbox (g id)
   inbox_value [] j id is = absurd (cc (is))
   inbox_value (x ∷ xs) zero id is = ap (λ (n : NodeId). part.Inbox (g n)) (some_is x id is)
   inbox_value (x ∷ xs) (suc j) id is = ap (λ n. pair_values s f g (x ∷ xs) (suc n)) (twice_suc j) ∙ inbox_value xs j id is
@@ -69,10 +72,12 @@ module _ (s : Scenario) (f : NodeId → Part) (g : NodeId → Inbox) where
 
 -- Values put in place of others.
 
-pub values_cons : (p : ℕ) (ps : List ℕ) (x : PartValue) (xs : List PartValue) (f : ℕ → PartValue) → with_values (p ∷ ps) (x ∷ xs) f ≡ with_values (p ∷ []) (x ∷ []) (with_values ps xs f)
+pub values_cons : (p : ℕ) (ps : List ℕ) (x : PartValue) (xs : List PartValue) (f : ℕ → PartValue) →
+    with_values (p ∷ ps) (x ∷ xs) f ≡ with_values (p ∷ []) (x ∷ []) (with_values ps xs f)
 values_cons p ps x xs f = λ i q. by q (p == q) i
   where
-    by : (q : ℕ) (b : Bool) → replay_or (if b then Some x else held_at q (held_pairs ps xs)) (f q) ≡ replay_or (if b then Some x else None) (with_values ps xs f q)
+    by : (q : ℕ) (b : Bool) → replay_or (if b then Some x else held_at q (held_pairs ps xs)) (f q) ≡ replay_or
+        (if b then Some x else None) (with_values ps xs f q)
     by q true = refl
     by q false = refl
 
@@ -88,7 +93,8 @@ off p q x f other = ap (λ (b : Bool). replay_or (if b then Some x else None) (f
 
 -- Lists that have the same at each place.
 
-pub lists_same : {A : Type 0} (xs ys : List A) → length xs ≡ length ys → ((k : ℕ) (x y : A) → slice_get xs k ≡ Some x → slice_get ys k ≡ Some y → x ≡ y) → xs ≡ ys
+pub lists_same : {A : Type 0} (xs ys : List A) → length xs ≡ length ys →
+    ((k : ℕ) (x y : A) → slice_get xs k ≡ Some x → slice_get ys k ≡ Some y → x ≡ y) → xs ≡ ys
 lists_same [] [] long each = refl
 lists_same [] (y ∷ ys) long each = absurd (omega (arith, long))
 lists_same (x ∷ xs) [] long each = absurd (omega (arith, long))
@@ -108,16 +114,20 @@ map_length f (x ∷ xs) = ap suc (map_length f xs)
 
 module _ (s : Scenario) where
   -- a statement of all numbers of parts, and of those beyond
-  pub each_part : (F : ℕ → Type 0) → F 0 → ((k : ℕ) (id : NodeId) → slice_get (declared_ids s) k ≡ Some id → F (node_part k)) → ((k : ℕ) (id : NodeId) → slice_get (declared_ids s) k ≡ Some id → F (inbox_part k))
+  pub each_part : (F : ℕ → Type 0) → F 0 → ((k : ℕ) (id : NodeId) → slice_get (declared_ids s) k ≡ Some id →
+      F (node_part k)) → ((k : ℕ) (id : NodeId) → slice_get (declared_ids s) k ≡ Some id → F (inbox_part k))
       → ((p : ℕ) → part_count s ≤ p → F p) → (p : ℕ) → F p
   each_part F first nodes inboxes beyond zero = first
-  each_part F first nodes inboxes beyond (suc p) = each_pair (declared_ids s) (λ q. F (suc q)) nodes inboxes (λ q far. beyond (suc q) (omega (arith, far))) p
+  each_part F first nodes inboxes beyond (suc p) = each_pair (declared_ids s) (λ q. F (suc q)) nodes inboxes
+      (λ q far. beyond (suc q) (omega (arith, far))) p
 
   module _ (w : World) where
-    pub node_part_is : (k : ℕ) (id : NodeId) → slice_get (declared_ids s) k ≡ Some id → parts_of s w (node_part k) ≡ part.Node (node_of_world s w id)
+    pub node_part_is : (k : ℕ) (id : NodeId) → slice_get (declared_ids s) k ≡ Some id →
+        parts_of s w (node_part k) ≡ part.Node (node_of_world s w id)
     node_part_is k id is = node_value s (node_of_world s w) (inbox_of_world w) (declared_ids s) k id is
 
-    pub inbox_part_is : (k : ℕ) (id : NodeId) → slice_get (declared_ids s) k ≡ Some id → parts_of s w (inbox_part k) ≡ part.Inbox (inbox_of_world w id)
+    pub inbox_part_is : (k : ℕ) (id : NodeId) → slice_get (declared_ids s) k ≡ Some id →
+        parts_of s w (inbox_part k) ≡ part.Inbox (inbox_of_world w id)
     inbox_part_is k id is = inbox_value s (node_of_world s w) (inbox_of_world w) (declared_ids s) k id is
 
     pub beyond_is : (p : ℕ) → part_count s ≤ p → parts_of s w p ≡ no_part s
@@ -127,13 +137,17 @@ module _ (s : Scenario) where
 module _ (s : Scenario) (apart : are_distinct good.same_member_node (members s) ≡ true) where
   module _ (w : World) (shaped : IsShaped s w) where
     pub number_at : (j : ℕ) (p : Part) → slice_get w.parts j ≡ Some p → slice_get (ids_of s) j ≡ Some p.node.me
-    number_at j p at = ap (λ (ids : List NodeId). slice_get ids j) (sym shaped.numbers_are) ∙ slice_get-map (λ (x : Part). x.node.me) w.parts j ∙ ap (option_map (λ (x : Part). x.node.me)) at
+    number_at j p at = ap (λ (ids : List NodeId). slice_get ids j) (sym shaped.numbers_are)
+        ∙ slice_get-map (λ (x : Part). x.node.me) w.parts j ∙ ap (option_map (λ (x : Part). x.node.me)) at
 
     pub nodes_apart : NodesApart w.parts
-    nodes_apart j k p q at_j at_k same = ranked_once s apart j k p.node.me q.node.me (number_at j p at_j) (number_at k q at_k) same
+    nodes_apart j k p q at_j at_k same = ranked_once s apart j k p.node.me q.node.me (number_at j p at_j)
+        (number_at k q at_k) same
 
-    pub part_here : (r : ℕ) (id : NodeId) → slice_get (ids_of s) r ≡ Some id → (p : Part) × (slice_get w.parts r ≡ Some p) × (p.node.me ≡ id)
-    part_here r id at = after_map (λ (x : Part). x.node.me) w.parts r id (ap (λ (ids : List NodeId). slice_get ids r) shaped.numbers_are ∙ at)
+    pub part_here : (r : ℕ) (id : NodeId) → slice_get (ids_of s) r ≡ Some id → (p : Part) × (slice_get w.parts r ≡ Some p)
+        × (p.node.me ≡ id)
+    part_here r id at = after_map (λ (x : Part). x.node.me) w.parts r id
+        (ap (λ (ids : List NodeId). slice_get ids r) shaped.numbers_are ∙ at)
 
     pub place_here : (r : ℕ) (id : NodeId) → slice_get (ids_of s) r ≡ Some id → place_of w id ≡ Some r
     place_here r id at =
@@ -160,7 +174,8 @@ module _ (s : Scenario) (apart : are_distinct good.same_member_node (members s) 
 
     -- A world is the one of its parts.
 
-    node_back : (r : ℕ) (id : NodeId) (y : Part) → slice_get (ids_of s) r ≡ Some id → slice_get w.parts r ≡ Some y → node_in s id (value_at s (parts_of s w) node_part (declared_place s id)) ≡ y
+    node_back : (r : ℕ) (id : NodeId) (y : Part) → slice_get (ids_of s) r ≡ Some id → slice_get w.parts r ≡ Some y →
+        node_in s id (value_at s (parts_of s w) node_part (declared_place s id)) ≡ y
     node_back r id y at is =
         let too = declared_too s apart r id at in
         ap (λ (o : Option ℕ). node_in s id (value_at s (parts_of s w) node_part o)) (place_declared s apart too.0 id too.1)
@@ -168,7 +183,8 @@ module _ (s : Scenario) (apart : are_distinct good.same_member_node (members s) 
         ∙ ap (λ (o : Option ℕ). part_or_absent s id (option_and_then (slice_get w.parts) o)) (place_here r id at)
         ∙ ap (part_or_absent s id) is
 
-    inbox_back : (r : ℕ) (id : NodeId) (y : Inbox) → slice_get (ids_of s) r ≡ Some id → slice_get w.inboxes r ≡ Some y → inbox_in (value_at s (parts_of s w) inbox_part (declared_place s id)) ≡ y
+    inbox_back : (r : ℕ) (id : NodeId) (y : Inbox) → slice_get (ids_of s) r ≡ Some id → slice_get w.inboxes r ≡ Some y →
+        inbox_in (value_at s (parts_of s w) inbox_part (declared_place s id)) ≡ y
     inbox_back r id y at is =
         let too = declared_too s apart r id at in
         ap (λ (o : Option ℕ). inbox_in (value_at s (parts_of s w) inbox_part o)) (place_declared s apart too.0 id too.1)
@@ -176,20 +192,28 @@ module _ (s : Scenario) (apart : are_distinct good.same_member_node (members s) 
         ∙ ap (λ (o : Option ℕ). inbox_or_new (option_and_then (slice_get w.inboxes) o)) (place_here r id at)
         ∙ ap inbox_or_new is
 
-    parts_back : map (λ (id : NodeId). node_in s id (value_at s (parts_of s w) node_part (declared_place s id))) (ids_of s) ≡ w.parts
+    parts_back : map (λ (id : NodeId). node_in s id (value_at s (parts_of s w) node_part (declared_place s id))) (ids_of s)
+        ≡ w.parts
     parts_back =
-        lists_same (map (λ (id : NodeId). node_in s id (value_at s (parts_of s w) node_part (declared_place s id))) (ids_of s)) w.parts
-        (map_length (λ (id : NodeId). node_in s id (value_at s (parts_of s w) node_part (declared_place s id))) (ids_of s) ∙ ap length (sym shaped.numbers_are) ∙ map_length (λ (x : Part). x.node.me) w.parts)
+        lists_same (map (λ (id : NodeId). node_in s id (value_at s (parts_of s w) node_part (declared_place s id)))
+        (ids_of s)) w.parts
+        (map_length (λ (id : NodeId). node_in s id (value_at s (parts_of s w) node_part (declared_place s id))) (ids_of s)
+        ∙ ap length (sym shaped.numbers_are) ∙ map_length (λ (x : Part). x.node.me) w.parts)
         (λ r x y at_x at_y.
-        let a = after_map (λ (id : NodeId). node_in s id (value_at s (parts_of s w) node_part (declared_place s id))) (ids_of s) r x at_x in
+        let a = after_map (λ (id : NodeId). node_in s id (value_at s (parts_of s w) node_part (declared_place s id)))
+        (ids_of s) r x at_x in
         sym a.2 ∙ node_back r a.0 y a.1 at_y)
 
-    inboxes_back : map (λ (id : NodeId). inbox_in (value_at s (parts_of s w) inbox_part (declared_place s id))) (ids_of s) ≡ w.inboxes
+    inboxes_back : map (λ (id : NodeId). inbox_in (value_at s (parts_of s w) inbox_part (declared_place s id))) (ids_of s)
+        ≡ w.inboxes
     inboxes_back =
-        lists_same (map (λ (id : NodeId). inbox_in (value_at s (parts_of s w) inbox_part (declared_place s id))) (ids_of s)) w.inboxes
-        (map_length (λ (id : NodeId). inbox_in (value_at s (parts_of s w) inbox_part (declared_place s id))) (ids_of s) ∙ sym shaped.inboxes_are)
+        lists_same (map (λ (id : NodeId). inbox_in (value_at s (parts_of s w) inbox_part (declared_place s id))) (ids_of s))
+        w.inboxes
+        (map_length (λ (id : NodeId). inbox_in (value_at s (parts_of s w) inbox_part (declared_place s id))) (ids_of s)
+        ∙ sym shaped.inboxes_are)
         (λ r x y at_x at_y.
-        let a = after_map (λ (id : NodeId). inbox_in (value_at s (parts_of s w) inbox_part (declared_place s id))) (ids_of s) r x at_x in
+        let a = after_map (λ (id : NodeId). inbox_in (value_at s (parts_of s w) inbox_part (declared_place s id)))
+        (ids_of s) r x at_x in
         sym a.2 ∙ inbox_back r a.0 y a.1 at_y)
 
     pub round : world_of s (parts_of s w) ≡ w
@@ -203,7 +227,8 @@ module _ (s : Scenario) (apart : are_distinct good.same_member_node (members s) 
 
     -- One part changed.
 
-    pub directory_set : (d : Directory) → parts_of s (with_directory w d) ≡ with_values (0 ∷ []) (part.Directory d ∷ []) (parts_of s w)
+    pub directory_set : (d : Directory) → parts_of s (with_directory w d) ≡ with_values (0 ∷ []) (part.Directory d ∷ [])
+        (parts_of s w)
     directory_set d = λ i p. by p i
       where
         by : (p : ℕ) → parts_of s (with_directory w d) p ≡ one_value 0 (part.Directory d) (parts_of s w) p
@@ -219,9 +244,11 @@ module _ (s : Scenario) (apart : are_distinct good.same_member_node (members s) 
       unbroken = shaped.unbroken;
     }
 
-    module _ (k r : ℕ) (id : NodeId) (declared : slice_get (declared_ids s) k ≡ Some id) (rank : slice_get (ids_of s) r ≡ Some id) where
+    module _ (k r : ℕ) (id : NodeId) (declared : slice_get (declared_ids s) k ≡ Some id)
+        (rank : slice_get (ids_of s) r ≡ Some id) where
       here_too : (j : ℕ) (y : NodeId) → slice_get (declared_ids s) j ≡ Some y → same_node id y ≡ true → j ≡ k
-      here_too j y is same = declared_once s apart j k id (is ∙ ap (λ (n : NodeId). Some n) (sym (same_node_true id y same))) declared
+      here_too j y is same = declared_once s apart j k id (is ∙ ap (λ (n : NodeId). Some n) (sym (same_node_true id y same)))
+          declared
 
       not_here : (j : ℕ) (y : NodeId) → slice_get (declared_ids s) j ≡ Some y → same_node id y ≡ false → j ≢ k
       not_here j y is other same_place =
@@ -232,7 +259,8 @@ module _ (s : Scenario) (apart : are_distinct good.same_member_node (members s) 
       not_beyond : (p : ℕ) → part_count s ≤ p → inbox_part k < p
       not_beyond p far = let within = slice_get_within (declared_ids s) k id declared in omega (arith, far, within)
 
-      pub node_set : (q : Part) → q.node.me ≡ id → parts_of s (record w { parts = slice_set w.parts r q }) ≡ with_values (node_part k ∷ []) (part.Node q ∷ []) (parts_of s w)
+      pub node_set : (q : Part) → q.node.me ≡ id → parts_of s (record w { parts = slice_set w.parts r q }) ≡ with_values
+          (node_part k ∷ []) (part.Node q ∷ []) (parts_of s w)
       node_set q me = λ i p. each_part s (λ n. parts_of s w2 n ≡ put n) first nodes inboxes beyond p i
         where
           w2 : World
@@ -247,7 +275,8 @@ module _ (s : Scenario) (apart : are_distinct good.same_member_node (members s) 
           seen : (y : NodeId) → part_at w2 y ≡ (if same_node id y then Some q else part_at w y)
           seen y =
               let p = part_here r id rank in
-              set_part w r p.0 q nodes_apart p.1 (me ∙ sym p.2) y ∙ ap (λ (n : NodeId). if same_node n y then Some q else part_at w y) p.2
+              set_part w r p.0 q nodes_apart p.1 (me ∙ sym p.2) y
+              ∙ ap (λ (n : NodeId). if same_node n y then Some q else part_at w y) p.2
 
           first : parts_of s w2 0 ≡ put 0
           first = stays 0 (grind (arith, nat_tests)) refl
@@ -266,14 +295,17 @@ module _ (s : Scenario) (apart : are_distinct good.same_member_node (members s) 
               by false other =
                   let there = not_here j y is other in
                   stays (node_part j) (grind (arith, nat_tests, there))
-                  (as_seen (part_at w y) (seen y ∙ ap (λ (b : Bool). if b then Some q else part_at w y) other) ∙ sym (node_part_is s w j y is))
+                  (as_seen (part_at w y) (seen y ∙ ap (λ (b : Bool). if b then Some q else part_at w y) other)
+                  ∙ sym (node_part_is s w j y is))
 
-          inboxes : (j : ℕ) (y : NodeId) → slice_get (declared_ids s) j ≡ Some y → parts_of s w2 (inbox_part j) ≡ put (inbox_part j)
+          inboxes : (j : ℕ) (y : NodeId) → slice_get (declared_ids s) j ≡ Some y →
+              parts_of s w2 (inbox_part j) ≡ put (inbox_part j)
           inboxes j y is =
               let p = part_here r id rank in
               stays (inbox_part j) (grind (arith, nat_tests))
               (inbox_part_is s w2 j y is
-              ∙ ap (λ (o : Option ℕ). part.Inbox (inbox_or_new (option_and_then (slice_get w.inboxes) o))) (set_place w r p.0 q nodes_apart p.1 (me ∙ sym p.2) y)
+              ∙ ap (λ (o : Option ℕ). part.Inbox (inbox_or_new (option_and_then (slice_get w.inboxes) o)))
+              (set_place w r p.0 q nodes_apart p.1 (me ∙ sym p.2) y)
               ∙ sym (inbox_part_is s w j y is))
 
           beyond : (p : ℕ) → part_count s ≤ p → parts_of s w2 p ≡ put p
@@ -292,7 +324,8 @@ module _ (s : Scenario) (apart : are_distinct good.same_member_node (members s) 
             unbroken = shaped.unbroken;
           }
 
-      pub inbox_set : (b : Inbox) → parts_of s (with_inbox w r b) ≡ with_values (inbox_part k ∷ []) (part.Inbox b ∷ []) (parts_of s w)
+      pub inbox_set : (b : Inbox) → parts_of s (with_inbox w r b) ≡ with_values (inbox_part k ∷ []) (part.Inbox b ∷ [])
+          (parts_of s w)
       inbox_set b = λ i p. each_part s (λ n. parts_of s w2 n ≡ put n) first nodes inboxes beyond p i
         where
           w2 : World
@@ -308,9 +341,11 @@ module _ (s : Scenario) (apart : are_distinct good.same_member_node (members s) 
           first = stays 0 (grind (arith, nat_tests)) refl
 
           nodes : (j : ℕ) (y : NodeId) → slice_get (declared_ids s) j ≡ Some y → parts_of s w2 (node_part j) ≡ put (node_part j)
-          nodes j y is = stays (node_part j) (grind (arith, nat_tests)) (node_part_is s w2 j y is ∙ sym (node_part_is s w j y is))
+          nodes j y is = stays (node_part j) (grind (arith, nat_tests)) (node_part_is s w2 j y is
+              ∙ sym (node_part_is s w j y is))
 
-          inboxes : (j : ℕ) (y : NodeId) → slice_get (declared_ids s) j ≡ Some y → parts_of s w2 (inbox_part j) ≡ put (inbox_part j)
+          inboxes : (j : ℕ) (y : NodeId) → slice_get (declared_ids s) j ≡ Some y →
+              parts_of s w2 (inbox_part j) ≡ put (inbox_part j)
           inboxes j y is = by (same_node id y) refl
             where
               q : ℕ
@@ -319,10 +354,12 @@ module _ (s : Scenario) (apart : are_distinct good.same_member_node (members s) 
               q_is : slice_get (ids_of s) q ≡ Some y
               q_is = (ranked s apart j y is).1
 
-              seen : (o : Option Inbox) → slice_get (slice_set w.inboxes r b) q ≡ o → parts_of s w2 (inbox_part j) ≡ part.Inbox (inbox_or_new o)
+              seen : (o : Option Inbox) → slice_get (slice_set w.inboxes r b) q ≡ o →
+                  parts_of s w2 (inbox_part j) ≡ part.Inbox (inbox_or_new o)
               seen o there =
                   inbox_part_is s w2 j y is
-                  ∙ ap (λ (x : Option ℕ). part.Inbox (inbox_or_new (option_and_then (slice_get (slice_set w.inboxes r b)) x))) (place_here q y q_is)
+                  ∙ ap (λ (x : Option ℕ). part.Inbox (inbox_or_new (option_and_then (slice_get (slice_set w.inboxes r b)) x)))
+                  (place_here q y q_is)
                   ∙ ap (λ (x : Option Inbox). part.Inbox (inbox_or_new x)) there
 
               by : (c : Bool) → same_node id y ≡ c → parts_of s w2 (inbox_part j) ≡ put (inbox_part j)
@@ -337,7 +374,8 @@ module _ (s : Scenario) (apart : are_distinct good.same_member_node (members s) 
                   let elsewhere = λ (e : q ≡ r). absurd_same e in
                   stays (inbox_part j) (grind (arith, nat_tests, there))
                   (seen (slice_get w.inboxes q) (get_other w.inboxes r q b elsewhere)
-                  ∙ ap (λ (x : Option ℕ). part.Inbox (inbox_or_new (option_and_then (slice_get w.inboxes) x))) (sym (place_here q y q_is))
+                  ∙ ap (λ (x : Option ℕ). part.Inbox (inbox_or_new (option_and_then (slice_get w.inboxes) x)))
+                  (sym (place_here q y q_is))
                   ∙ sym (inbox_part_is s w j y is))
                 where
                   absurd_same : q ≡ r → ⊥

@@ -74,7 +74,8 @@ pub record IsRunOfHistory (s : Scenario) (log : List (Entry PartValue Group)) : 
   pub run : IsRunOfParts s (groups_of log)
   pub values : history.replay (rules_of s) log ≡ values_at s (groups_of log)
   pub world : world_of s (history.replay (rules_of s) log) ≡ world_at s (groups_of log)
-  pub legal : (end : End) → EndsAt (world_of s (history.replay (rules_of s) log)) end → IsLegal (journal_of s (groups_of log) end)
+  pub legal : (end : End) → EndsAt (world_of s (history.replay (rules_of s) log)) end →
+      IsLegal (journal_of s (groups_of log) end)
 
 abbrev pub group_of : Event → List Rec → Group
 group_of e recs = record { event = e; recs = recs }
@@ -97,7 +98,8 @@ WholeStepsAreOfParts e = (s : Scenario) (gs : List Group) (recs : List Rec) → 
     → IsStep (world_at s gs) (group_of e recs)
     → is_listed s e (touched_values s (group_of e recs) (values_at s gs)) ≡ true
     → (let after = parts_of s (outcome (world_at s gs) e).world in
-    Relates s (group_of e recs) (touched_values s (group_of e recs) (values_at s gs)) (touched_values s (group_of e recs) after))
+    Relates s (group_of e recs) (touched_values s (group_of e recs) (values_at s gs))
+    (touched_values s (group_of e recs) after))
 
 -- it is possible by the values of these parts just where it is possible in the world
 abbrev pub IsPossibleByParts : Event → Type 0
@@ -119,7 +121,8 @@ IsNumberOfNode place n = (s : Scenario) (gs : List Group) (id : NodeId) (p : Par
     → part_at (world_at s gs) id ≡ Some p → values_at s gs n ≡ part.Node p
 
 abbrev pub IsNumberOfInbox : ℕ → ℕ → Type 0
-IsNumberOfInbox place n = (s : Scenario) (gs : List Group) (id : NodeId) (b : Inbox) → slice_get (declared_ids s) place ≡ Some id
+IsNumberOfInbox place n = (s : Scenario) (gs : List Group) (id : NodeId) (b : Inbox) →
+    slice_get (declared_ids s) place ≡ Some id
     → inbox_on (world_at s gs) (place_of (world_at s gs) id) ≡ Some b → values_at s gs n ≡ part.Inbox b
 
 -- with so many declared nodes

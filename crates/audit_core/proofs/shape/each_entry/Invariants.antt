@@ -4,4 +4,5 @@ use Rattle.audit_core.specs.Shape.{each, printed_entry_of}
 use Rattle.audit_core.proofs.shape.each_entry.Given as goal
 
 abbrev pub invariant-loop-item : goal.invariant-loop-item
-invariant-loop-item l = option_map (λ rest. l.entries ++ rest) (each printed_entry_of (items_view (drop l.item-index l.items))) ≡ each printed_entry_of (items_view l.items)
+invariant-loop-item l = option_map (λ rest. l.entries ++ rest)
+    (each printed_entry_of (items_view (drop l.item-index l.items))) ≡ each printed_entry_of (items_view l.items)

@@ -8,4 +8,5 @@ use Rattle.node_core.proofs.acts.act_on.Goals as goal
 pub returns : goal.returns
 returns c =
     subst (λ (s : NodeState). OnOk c.close.result (c.close.new.node ≡ after_closing_rules s))
-    (c.in_ok-on_message.ensures ∙ ap (λ (s : NodeState). after_message s c.args.from c.args.message.now) c.begin_act.ensures) c.close.ensures
+    (c.in_ok-on_message.ensures ∙ ap (λ (s : NodeState). after_message s c.args.from c.args.message.now) c.begin_act.ensures)
+    c.close.ensures

@@ -8,5 +8,9 @@ use Rattle.partition_exchange.proofs.coordinating.compute.Goals as goal
 
 pub returns : goal.returns
 returns c =
-    subst (λ (s : NodeState). OnOk c.count.result (c.count.new.node ≡ after_count s (record { top = c.args.map.top; installed = c.args.node.now.me ∷ [] }))) c.in_ok-publish.ensures
-    (subst (λ (nodes : List NodeId). OnOk c.count.result (c.count.new.node ≡ after_count c.publish.new.node (record { top = c.args.map.top; installed = nodes }))) c.in_ok-installed.ensures c.count.ensures)
+    subst (λ (s : NodeState).
+    OnOk c.count.result (c.count.new.node ≡ after_count s
+    (record { top = c.args.map.top; installed = c.args.node.now.me ∷ [] }))) c.in_ok-publish.ensures
+    (subst (λ (nodes : List NodeId).
+    OnOk c.count.result (c.count.new.node ≡ after_count c.publish.new.node
+    (record { top = c.args.map.top; installed = nodes }))) c.in_ok-installed.ensures c.count.ensures)

@@ -6,4 +6,5 @@ use Rattle.partition_exchange.proofs.coordinating.on_single.Goals as goal
 
 pub returns : goal.returns
 returns c =
-    subst (λ (s : NodeState). OnOk c.compute_if_all.result (c.compute_if_all.new.node ≡ after_compute_if_all s)) c.in_ok-keep_single.ensures c.compute_if_all.ensures
+    subst (λ (s : NodeState). OnOk c.compute_if_all.result (c.compute_if_all.new.node ≡ after_compute_if_all s))
+    c.in_ok-keep_single.ensures c.compute_if_all.ensures

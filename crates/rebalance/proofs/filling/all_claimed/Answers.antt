@@ -8,4 +8,5 @@ returns-then-has_mover c =
 
 pub returns-else-has_mover : goal.returns-else-has_mover
 returns-else-has_mover c =
-    c.if-has_mover.false ∙ claimed_without_movers c.args.node.now c.args.rows.now (sym c.has_mover.ensures ∙ c.if-has_mover.false)
+    c.if-has_mover.false ∙ claimed_without_movers c.args.node.now c.args.rows.now (sym c.has_mover.ensures
+    ∙ c.if-has_mover.false)

@@ -6,4 +6,5 @@ use Rattle.ordered_set.specs.Members.{has}
 use Rattle.rebalance.proofs.filling.all_filled.Given as goal
 
 abbrev pub invariant-loop-row : goal.invariant-loop-row
-invariant-loop-row l = list_all (λ (part : ℕ). has nat_cmp l.node.complete part) (moved_from l.node.me l.part (drop l.row-index l.row-items)) ≡ all_filled l.node
+invariant-loop-row l = list_all (λ (part : ℕ). has nat_cmp l.node.complete part)
+    (moved_from l.node.me l.part (drop l.row-index l.row-items)) ≡ all_filled l.node

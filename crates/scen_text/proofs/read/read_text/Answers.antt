@@ -9,7 +9,8 @@ use Rattle.scen_text.proofs.Few.{few_taken}
 use Rattle.scen_text.proofs.read.read_text.Goals as goal
 
 -- what the lines mean from one on is what those behind it mean from the next draft on
-behind_line : (n : ℕ) (d e : Draft) (text : List (List ℕ)) (line : List ℕ) (rest : List (List ℕ)) (said : Result Scenario Refusal)
+behind_line : (n : ℕ) (d e : Draft) (text : List (List ℕ)) (line : List ℕ) (rest : List (List ℕ))
+    (said : Result Scenario Refusal)
     → text ≡ line ∷ rest → line_taken d line ≡ Ok e → read_lines n d text ≡ said → read_lines (n + 1) e rest ≡ said
 behind_line n d e text line rest said is taken h = rw taken at (rw is at h)
 

@@ -5,6 +5,8 @@ use Rattle.session_scripts.proofs.ranges.copied.Goals as goal
 
 pub loop-object-preserved : goal.loop-object-preserved
 loop-object-preserved c =
-    let ascending : IsAscending key_cmp c.as_slice-object-items.result.now = rw c.as_slice-object-items.ensures.value c.as_slice-object-items.ensures.ascending in
-    let more = copied_more c.as_slice-object-items.result.now c.loop-object.object-index c.loop-object-item.result ascending c.loop-object-test.true in
+    let ascending : IsAscending key_cmp c.as_slice-object-items.result.now =
+    rw c.as_slice-object-items.ensures.value c.as_slice-object-items.ensures.ascending in
+    let more = copied_more c.as_slice-object-items.result.now c.loop-object.object-index c.loop-object-item.result ascending
+    c.loop-object-test.true in
     cc (more, c.in_ok-set.ensures.ok, c.loop-object-item.is, c.loop-object.invariant)

@@ -14,12 +14,14 @@ tell-requires-clause-runs c =
 pub tell-requires-then-all_over-clause-runs : goal.tell-requires-then-all_over-clause-runs
 tell-requires-then-all_over-clause-runs c =
     subst (λ (j : Journal). Runs c.args.options status.AllEnded j) (sym c.into_journal-journal-then-all_over.ensures)
-    (over_runs c.args.options c.args.world c.requires.follows (rw c.if-more.false at c.requires.ended) (rw c.all_over.ensures at c.if-all_over.true))
+    (over_runs c.args.options c.args.world c.requires.follows (rw c.if-more.false at c.requires.ended)
+    (rw c.all_over.ensures at c.if-all_over.true))
 
 pub tell-requires-else-all_over-clause-runs : goal.tell-requires-else-all_over-clause-runs
 tell-requires-else-all_over-clause-runs c =
     subst (λ (j : Journal). Runs c.args.options status.Stalled j) (sym c.into_journal-journal-else-all_over.ensures)
-    (stalled_runs c.args.options c.args.world c.requires.follows (rw c.if-more.false at c.requires.ended) (rw c.all_over.ensures at c.if-all_over.false))
+    (stalled_runs c.args.options c.args.world c.requires.follows (rw c.if-more.false at c.requires.ended)
+    (rw c.all_over.ensures at c.if-all_over.false))
 
 pub returns : goal.returns
 returns c =

@@ -9,4 +9,5 @@ compact-requires c = rw c.in_ok-whole.ensures (history_plain c.args.scenario.now
 pub returns : goal.returns
 returns c =
     c.in_ok-push.ensures.items
-    ∙ ap (λ (text : List ℕ). text ++ (10 ∷ [])) (ap (λ (v : Vec ℕ Global). v.items) c.into_bytes-bytes.ensures.value ∙ c.in_ok-compact.ensures ∙ ap compact_text c.in_ok-whole.ensures)
+    ∙ ap (λ (text : List ℕ). text ++ (10 ∷ [])) (ap (λ (v : Vec ℕ Global). v.items) c.into_bytes-bytes.ensures.value
+    ∙ c.in_ok-compact.ensures ∙ ap compact_text c.in_ok-whole.ensures)

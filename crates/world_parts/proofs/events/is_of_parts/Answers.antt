@@ -8,7 +8,8 @@ pub returns-clause-whole : goal.returns-clause-whole
 returns-clause-whole c s gs recs news run related = step_of_machine s gs (group_of c.args.event.now recs) news run related
 
 pub returns-clause-parts : goal.returns-clause-parts
-returns-clause-parts c is s gs recs run step listed = step_of_parts s gs (group_of c.args.event.now recs) run (ap not (sym c.is_want_of_memory.ensures) ∙ is) step listed
+returns-clause-parts c is s gs recs run step listed = step_of_parts s gs (group_of c.args.event.now recs) run
+    (ap not (sym c.is_want_of_memory.ensures) ∙ is) step listed
 
 pub returns-clause-possible : goal.returns-clause-possible
 returns-clause-possible c is s gs run = possible_same s gs c.args.event.now run (ap not (sym c.is_want_of_memory.ensures) ∙ is)

@@ -9,4 +9,5 @@ use Rattle.world_parts.proofs.numbers.node_part.Goals as goal
 pub returns-clause-value : goal.returns-clause-value
 returns-clause-value c s gs id p declared is =
     let number : 2 * c.args.place + 1 ≡ suc (2 * c.args.place) = omega arith in
-    ap (values_at s gs) number ∙ node_part_is s (world_at s gs) c.args.place id declared ∙ ap (λ (o : Option Part). part.Node (part_or_absent s id o)) is
+    ap (values_at s gs) number ∙ node_part_is s (world_at s gs) c.args.place id declared
+    ∙ ap (λ (o : Option Part). part.Node (part_or_absent s id o)) is

@@ -7,4 +7,6 @@ use Rattle.audit_core.proofs.tables.PlainMap.get.Goals as goal
 
 pub returns : goal.returns
 returns c =
-    rw (← c.self.view_is) (c.get.ensures.value ∙ sym (at_by_key bytes_cmp (pointwise nat_eq) nat_list_cmp_total texts_ties exact_bytes c.self.inside.map.entries c.args.key.now))
+    rw (← c.self.view_is) (c.get.ensures.value
+    ∙ sym (at_by_key bytes_cmp (pointwise nat_eq) nat_list_cmp_total texts_ties exact_bytes c.self.inside.map.entries
+    c.args.key.now))

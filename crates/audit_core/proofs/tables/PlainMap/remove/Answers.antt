@@ -7,4 +7,5 @@ use Rattle.audit_core.proofs.tables.PlainMap.remove.Goals as goal
 
 pub returns : goal.returns
 returns c =
-    rw (← c.self.view_is) (by_key_without bytes_cmp (pointwise nat_eq) nat_list_cmp_total texts_ties exact_bytes _ _ c.args.key.now c.swap_remove.ensures.updates.0)
+    rw (← c.self.view_is) (by_key_without bytes_cmp (pointwise nat_eq) nat_list_cmp_total texts_ties exact_bytes _ _
+    c.args.key.now c.swap_remove.ensures.updates.0)

@@ -7,4 +7,5 @@ use Rattle.audit_core.proofs.tables.PlainMap.set.Goals as goal
 
 pub returns : goal.returns
 returns c =
-    rw (← c.self.view_is) (by_key_put bytes_cmp (pointwise nat_eq) nat_list_cmp_total texts_ties exact_bytes _ _ c.args.key c.args.value c.in_ok-insert.ensures.updates.0)
+    rw (← c.self.view_is) (by_key_put bytes_cmp (pointwise nat_eq) nat_list_cmp_total texts_ties exact_bytes _ _ c.args.key
+    c.args.value c.in_ok-insert.ensures.updates.0)

@@ -13,4 +13,10 @@ returns c =
     let known : List (Key × Found) = put key_cmp (near_told_of c.args.self.now node) c.args.key.now c.args.found.now in
     let set : c.set.new.self ≡ known = c.in_ok-set.ensures.ok ∙ rw c.take_near-known.ensures.known refl in
     let told = c.take_near-known.ensures.rest.again known in
-    on_ok c.set-2.result c.set-2.ensures.ok (λ near. rw (near, set, told, c.take_near-known.ensures.rest.others, c.in-Some.is) refl)
+    on_ok c.set-2.result c.set-2.ensures.ok (λ near. rw (
+      near,
+      set,
+      told,
+      c.take_near-known.ensures.rest.others,
+      c.in-Some.is,
+    ) refl)

@@ -12,5 +12,6 @@ loop-tx-preserved c =
     let txs = c.as_slice-tx-items.ensures ∙ rw c.self.view_is at c.in_ok-txs.ensures in
     let none : TxId = record { node = record { 0 = 0 }; session = 0; number = 0 } in
     let tx = get_or c.as_slice-tx-items.result.now c.loop-tx.tx-index none in
-    let more = read_copied tx_cmp tx_total c.args.self.now _ c.loop-tx.tx-index tx [] up txs c.loop-tx-test.true (get_or_default c.as_slice-tx-items.result.now c.loop-tx.tx-index none tx c.loop-tx-test.true) in
+    let more = read_copied tx_cmp tx_total c.args.self.now _ c.loop-tx.tx-index tx [] up txs c.loop-tx-test.true
+    (get_or_default c.as_slice-tx-items.result.now c.loop-tx.tx-index none tx c.loop-tx-test.true) in
     rw (c.in_ok-set.ensures.ok, c.in_ok-copied.ensures, c.table.ensures.value, c.loop-tx.invariant) more

@@ -8,5 +8,6 @@ pub loop-key-preserved : goal.loop-key-preserved
 loop-key-preserved c =
     let up = rw c.self.view_is at c.len-count.ensures.ascending in
     let keys = c.as_slice-key-items.ensures ∙ rw c.self.view_is at c.in_ok-keys.ensures in
-    let more = read_copied key_cmp key_total c.args.self.now _ c.loop-key.key-index c.key-item.result [] up keys c.loop-key-test.true c.key-item.is in
+    let more = read_copied key_cmp key_total c.args.self.now _ c.loop-key.key-index c.key-item.result [] up keys
+    c.loop-key-test.true c.key-item.is in
     rw (c.in_ok-set.ensures.ok, c.in_ok-from_slice.ensures, c.queue.ensures, c.loop-key.invariant) more

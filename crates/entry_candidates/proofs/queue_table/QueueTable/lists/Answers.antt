@@ -14,5 +14,6 @@ returns c =
     let keys = c.as_slice-key-items.ensures ∙ rw c.self.view_is at c.in_ok-keys.ensures in
     let waiters : Key → List TxId → Waiters = λ key txs. record { key = key; txs = txs } in
     let read = map_read key_cmp [] waiters c.args.self.now c.args.self.now (each_found key_cmp key_total c.args.self.now up) in
-    all_read (λ (key : Key). waiters key (queue_in c.args.self.now key)) c.loop-key.lists _ c.loop-key.key-index c.loop-key-test.false c.loop-key.invariant
+    all_read (λ (key : Key). waiters key (queue_in c.args.self.now key)) c.loop-key.lists _ c.loop-key.key-index
+    c.loop-key-test.false c.loop-key.invariant
     ∙ ap (map (λ (key : Key). waiters key (queue_in c.args.self.now key))) keys ∙ read

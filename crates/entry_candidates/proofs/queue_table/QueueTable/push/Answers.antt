@@ -7,4 +7,7 @@ pub returns-in-Some-clause-err : goal.returns-in-Some-clause-err
 returns-in-Some-clause-err c =
     let back = queue_aside _ _ c.args.key.now c.in-Some.queue c.in-Some.ensures in
     let seen = rw (← c.self.view_is) at back in
-    on_err_weaker c.push-pushed.result (λ (same : c.push-pushed.new.self ≡ c.in-Some.queue). rw (c.replace-vacant.ensures.new, same) seen) c.push-pushed.ensures.err
+    on_err_weaker c.push-pushed.result (λ (same : c.push-pushed.new.self ≡ c.in-Some.queue). rw (
+      c.replace-vacant.ensures.new,
+      same,
+    ) seen) c.push-pushed.ensures.err

@@ -5,7 +5,8 @@ use Rattle.entry_candidates.proofs.queues.Queues.drop_waiting.Goals as goal
 pub returns-then-not-waits-clause-queues : goal.returns-then-not-waits-clause-queues
 returns-then-not-waits-clause-queues c =
     let none = sym c.waits.ensures ∙ c.if-not-waits.true in
-    rw (← c.self.view_is) (none_dropped c.self.inside.queues c.self.inside.places c.args.tx c.args.key.now c.self.invariant none)
+    rw (← c.self.view_is) (none_dropped c.self.inside.queues c.self.inside.places c.args.tx c.args.key.now c.self.invariant
+    none)
 
 pub settle-requires : goal.settle-requires
 settle-requires c =

@@ -9,9 +9,15 @@ invariant_of-self-in-Ok c =
 
 pub invariant_of-self-in-Err : goal.invariant_of-self-in-Err
 invariant_of-self-in-Err c =
-    rw (c.pop-tx.ensures.rest, c.in_ok-push.ensures.ok, c.in-Err.ensures.err, taken_back_one c.self.inside.queues c.args.key c.args.tx c.self.invariant.queues_tidy)
+    rw (
+      c.pop-tx.ensures.rest,
+      c.in_ok-push.ensures.ok,
+      c.in-Err.ensures.err,
+      taken_back_one c.self.inside.queues c.args.key c.args.tx c.self.invariant.queues_tidy,
+    )
     c.self.invariant
 
 pub returns-in-Err-clause-err : goal.returns-in-Err-clause-err
 returns-in-Err-clause-err c =
-    rw (c.pop-tx.ensures.rest, c.in_ok-push.ensures.ok) (taken_back_one c.self.inside.queues c.args.key c.args.tx c.self.invariant.queues_tidy ∙ c.self.view_is)
+    rw (c.pop-tx.ensures.rest, c.in_ok-push.ensures.ok)
+    (taken_back_one c.self.inside.queues c.args.key c.args.tx c.self.invariant.queues_tidy ∙ c.self.view_is)

@@ -9,7 +9,8 @@ pub loop-place-preserved : goal.loop-place-preserved
 loop-place-preserved c =
     c.in-Ok.ensures.queues
     ∙ ap (λ (q : Queues). queues_with q c.args.tx c.index-keys-place.result) c.loop-place.invariant
-    ∙ sym (enqueued_more c.args.self.now c.args.keys.now c.loop-place.place c.index-keys-place.result c.args.tx c.loop-place-test.true c.index-keys-place.is)
+    ∙ sym (enqueued_more c.args.self.now c.args.keys.now c.loop-place.place c.index-keys-place.result c.args.tx
+    c.loop-place-test.true c.index-keys-place.is)
 
 pub returns-in-Err-clause-err : goal.returns-in-Err-clause-err
 returns-in-Err-clause-err c =

@@ -7,4 +7,5 @@ use Rattle.link_memory.proofs.inbox.Inbox.empty_each.Given as goal
 abbrev pub invariant-loop-place : goal.invariant-loop-place
 invariant-loop-place l =
     (keys_in l.self.links ≡ keys_in l.initial.self.links)
-    × (without_messages_of_each l.self (drop l.place (keys_in l.initial.self.links)) ≡ without_messages_of_each l.initial.self (keys_in l.initial.self.links))
+    × (without_messages_of_each l.self (drop l.place (keys_in l.initial.self.links)) ≡ without_messages_of_each l.initial.self
+    (keys_in l.initial.self.links))

@@ -9,4 +9,5 @@ pub returns : goal.returns
 returns c =
     let sized : NearCache → SizedNear = λ near. record { size = non_zero_usize_get c.args.size; entries = near } in
     rw (c.resize.ensures, c.in_ok-put.ensures.entries, ← c.self.view_is)
-    (ap sized (put_sized c.make_room.new.entries c.self.inside.entries.entries c.args.key c.args.kept (non_zero_usize_get c.args.size) c.len-count.ensures.valid c.make_room.ensures.same c.make_room.ensures.room))
+    (ap sized (put_sized c.make_room.new.entries c.self.inside.entries.entries c.args.key c.args.kept
+    (non_zero_usize_get c.args.size) c.len-count.ensures.valid c.make_room.ensures.same c.make_room.ensures.room))

@@ -13,7 +13,8 @@ returns-clause-ok c =
     on_ok c.insert-added.result
     (λ (added : c.insert-added.new.self ≡ with_member node_cmp c.replace-readers.result c.args.node).
     rw (c.replace-none.ensures.new, c.replace-readers.ensures.new, ← c.self.view_is)
-    (reader_added c.self.inside.nodes c.args.key c.replace-readers.result c.new.result c.insert-added.new.self c.args.node c.replace-readers.ensures.old added))
+    (reader_added c.self.inside.nodes c.args.key c.replace-readers.result c.new.result c.insert-added.new.self c.args.node
+    c.replace-readers.ensures.old added))
     c.insert-added.ensures.ok
 
 pub returns-clause-err : goal.returns-clause-err

@@ -5,5 +5,6 @@ use Rattle.sched_seed.proofs.picker.Picker.new.Goals.{then-seed-eq0, else-seed-e
 
 pub returns : goal.returns
 returns c =
-    let made : c.if-seed-eq0.generator ≡ picker_of c.args.seed = elim c.if-seed-eq0.branch [ then-seed-eq0 w ↦ search rules | else-seed-eq0 w ↦ search rules ] in
+    let made : c.if-seed-eq0.generator ≡ picker_of c.args.seed =
+    elim c.if-seed-eq0.branch [ then-seed-eq0 w ↦ search rules | else-seed-eq0 w ↦ search rules ] in
     made ∙ picker_at_zero c.args.seed

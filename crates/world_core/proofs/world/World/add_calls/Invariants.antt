@@ -6,5 +6,6 @@ use Rattle.world_core.proofs.world.World.add_calls.Given as goal
 
 abbrev pub invariant-loop-session : goal.invariant-loop-session
 invariant-loop-session l =
-    l.events ++ possible_of l.self.now (map event.Call (map (λ (home : ℕ × NodeId). home.0) (drop l.session-index l.session-items)))
+    l.events ++ possible_of l.self.now
+    (map event.Call (map (λ (home : ℕ × NodeId). home.0) (drop l.session-index l.session-items)))
     ≡ l.initial.events ++ possible_of l.self.now (map event.Call (map (λ (home : ℕ × NodeId). home.0) l.session-items))

@@ -6,5 +6,7 @@ use Rattle.world_core.proofs.world.World.add_expiries.Given as goal
 
 abbrev pub invariant-loop-session : goal.invariant-loop-session
 invariant-loop-session l =
-    l.events ++ possible_of l.self.now (map event.Expire (txs_of_sessions l.self.now (map (λ (home : ℕ × NodeId). home.0) (drop l.session-index l.session-items))))
+    l.events ++ possible_of l.self.now
+    (map event.Expire (txs_of_sessions l.self.now
+    (map (λ (home : ℕ × NodeId). home.0) (drop l.session-index l.session-items))))
     ≡ l.initial.events ++ possible_of l.self.now (map event.Expire (open_txs l.self.now))

@@ -14,17 +14,27 @@ pub returns-clause-world : goal.returns-clause-world
 returns-clause-world c =
     let r : Run = the_view c.self.inside in
     let q : Part = record { node = c.behind-self.inside.node; life = c.behind-self.inside.life } in
-    let done = acts_world (λ (s : NodeState). expire_act s c.args.tx) r c.in-Some.place q c.index_mut.result.now c.expire.new.node c.args.place c.in-Some.is
+    let done = acts_world (λ (s : NodeState). expire_act s c.args.tx) r c.in-Some.place q c.index_mut.result.now
+    c.expire.new.node c.args.place c.in-Some.is
     (inside c) c.behind-self.view_is c.index_mut.ensures.value c.in_ok-recs.ensures.state in
-    let left : Run = record r { now = record r.now { parts = slice_set r.now.parts c.in-Some.place (record { node = c.expire.new.node; life = q.life }) } } in
-    subst (λ (s : Run). left ≡ record s { now = (expire_outcome s.now c.args.tx c.args.place (part_on s.now c.args.place)).world }) c.self.view_is
-    (done ∙ ap (λ (o : Outcome). record r { now = o.world }) (expires_as r.now c.args.tx c.args.place (part_on r.now c.args.place)))
+    let left : Run = record r {
+      now =
+          record r.now { parts = slice_set r.now.parts c.in-Some.place (record { node = c.expire.new.node; life = q.life }) };
+    } in
+    subst (λ (s : Run). left ≡ record s {
+      now =
+          (expire_outcome s.now c.args.tx c.args.place (part_on s.now c.args.place)).world;
+    }) c.self.view_is
+    (done ∙ ap (λ (o : Outcome). record r { now = o.world })
+    (expires_as r.now c.args.tx c.args.place (part_on r.now c.args.place)))
 
 pub returns-clause-recs : goal.returns-clause-recs
 returns-clause-recs c =
     let r : Run = the_view c.self.inside in
     let q : Part = record { node = c.behind-self.inside.node; life = c.behind-self.inside.life } in
-    let done = acts_recs (λ (s : NodeState). expire_act s c.args.tx) r c.in-Some.place q c.index_mut.result.now c.in_ok-recs.recs c.args.place c.in-Some.is
+    let done = acts_recs (λ (s : NodeState). expire_act s c.args.tx) r c.in-Some.place q c.index_mut.result.now
+    c.in_ok-recs.recs c.args.place c.in-Some.is
     (inside c) c.behind-self.view_is c.index_mut.ensures.value c.in_ok-recs.ensures.recs in
-    subst (λ (s : Run). c.in_ok-recs.recs ≡ (expire_outcome s.now c.args.tx c.args.place (part_on s.now c.args.place)).recs) c.self.view_is
+    subst (λ (s : Run). c.in_ok-recs.recs ≡ (expire_outcome s.now c.args.tx c.args.place (part_on s.now c.args.place)).recs)
+    c.self.view_is
     (done ∙ ap (λ (o : Outcome). o.recs) (expires_as r.now c.args.tx c.args.place (part_on r.now c.args.place)))

@@ -19,17 +19,40 @@ pub returns-in_ok-recs-in-Some-pop-clause-world : goal.returns-in_ok-recs-in-Som
 returns-in_ok-recs-in-Some-pop-clause-world c =
     let r : Run = the_view c.self.inside in
     let q : Part = record { node = c.behind-self.inside.node; life = c.behind-self.inside.life } in
-    let there : part_on r.now (Some c.in-Some.place) ≡ Some q = there_is r.now c.in-Some.place q c.index_mut.result.now (in_parts c) c.behind-self.view_is c.index_mut.ensures.value in
-    let kept : inbox_on r.now (Some c.in-Some.place) ≡ Some c.index_mut-inbox.result.now = inbox_is r.now c.in-Some.place c.index_mut-inbox.result.now (in_inboxes c) c.index_mut-inbox.ensures.value in
-    let left : Run = record r { now = record r.now { parts = slice_set r.now.parts c.in-Some.place (record { node = c.take_message.new.node; life = q.life }); inboxes = slice_set r.now.inboxes c.in-Some.place c.pop.new.self } } in
-    subst (λ (s : Run). left ≡ record s { now = (act_outcome s.now c.args.from c.args.place (part_on s.now c.args.place) (inbox_on s.now c.args.place)).world }) c.self.view_is
-    (takes_world r c.args.from c.in-Some.place q c.index_mut-inbox.result.now c.pop.new.self c.in-Some-pop.message c.take_message.new.node c.args.place c.in-Some.is there kept (first c) c.pop.ensures.rest c.in_ok-recs-in-Some-pop.ensures.state)
+    let there : part_on r.now (Some c.in-Some.place) ≡ Some q = there_is r.now c.in-Some.place q c.index_mut.result.now
+    (in_parts c) c.behind-self.view_is c.index_mut.ensures.value in
+    let kept : inbox_on r.now (Some c.in-Some.place) ≡ Some c.index_mut-inbox.result.now =
+    inbox_is r.now c.in-Some.place c.index_mut-inbox.result.now (in_inboxes c) c.index_mut-inbox.ensures.value in
+    let left : Run = record r {
+      now =
+          record r.now {
+            parts = slice_set r.now.parts c.in-Some.place (record {
+              node = c.take_message.new.node;
+              life =
+                  q.life;
+            });
+            inboxes = slice_set r.now.inboxes c.in-Some.place c.pop.new.self;
+          };
+    } in
+    subst (λ (s : Run). left ≡ record s {
+      now =
+          (act_outcome s.now c.args.from c.args.place (part_on s.now c.args.place) (inbox_on s.now c.args.place)).world;
+    })
+    c.self.view_is
+    (takes_world r c.args.from c.in-Some.place q c.index_mut-inbox.result.now c.pop.new.self c.in-Some-pop.message
+    c.take_message.new.node c.args.place c.in-Some.is there kept (first c) c.pop.ensures.rest
+    c.in_ok-recs-in-Some-pop.ensures.state)
 
 pub returns-in_ok-recs-in-Some-pop-clause-recs : goal.returns-in_ok-recs-in-Some-pop-clause-recs
 returns-in_ok-recs-in-Some-pop-clause-recs c =
     let r : Run = the_view c.self.inside in
     let q : Part = record { node = c.behind-self.inside.node; life = c.behind-self.inside.life } in
-    let there : part_on r.now (Some c.in-Some.place) ≡ Some q = there_is r.now c.in-Some.place q c.index_mut.result.now (in_parts c) c.behind-self.view_is c.index_mut.ensures.value in
-    let kept : inbox_on r.now (Some c.in-Some.place) ≡ Some c.index_mut-inbox.result.now = inbox_is r.now c.in-Some.place c.index_mut-inbox.result.now (in_inboxes c) c.index_mut-inbox.ensures.value in
-    subst (λ (s : Run). c.in_ok-recs-in-Some-pop.recs ≡ (act_outcome s.now c.args.from c.args.place (part_on s.now c.args.place) (inbox_on s.now c.args.place)).recs) c.self.view_is
-    (takes_recs r c.args.from c.in-Some.place q c.index_mut-inbox.result.now c.in-Some-pop.message c.in_ok-recs-in-Some-pop.recs c.args.place c.in-Some.is there kept (first c) c.in_ok-recs-in-Some-pop.ensures.recs)
+    let there : part_on r.now (Some c.in-Some.place) ≡ Some q = there_is r.now c.in-Some.place q c.index_mut.result.now
+    (in_parts c) c.behind-self.view_is c.index_mut.ensures.value in
+    let kept : inbox_on r.now (Some c.in-Some.place) ≡ Some c.index_mut-inbox.result.now =
+    inbox_is r.now c.in-Some.place c.index_mut-inbox.result.now (in_inboxes c) c.index_mut-inbox.ensures.value in
+    subst (λ (s : Run). c.in_ok-recs-in-Some-pop.recs
+    ≡ (act_outcome s.now c.args.from c.args.place (part_on s.now c.args.place) (inbox_on s.now c.args.place)).recs)
+    c.self.view_is
+    (takes_recs r c.args.from c.in-Some.place q c.index_mut-inbox.result.now c.in-Some-pop.message
+    c.in_ok-recs-in-Some-pop.recs c.args.place c.in-Some.is there kept (first c) c.in_ok-recs-in-Some-pop.ensures.recs)
