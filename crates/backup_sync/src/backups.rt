@@ -1,12 +1,12 @@
 //! A backup's or mover's part in both phases.
 
 ghost use Rattle.std.specs.Prelude.{◌≡◌, OnOk, IfOk};
-ghost use Rattle.act_rows.specs.Backups.{after_backup_finish, after_backup_finish_of, after_backup_prepare, after_commit_backup, without_backup};
+ghost use Rattle.act_rows.specs.Backups.{after_backup_finish, after_backup_finish_of, after_backup_prepare, after_commit_backup};
 ghost use Rattle.act_rows.specs.Steps.{backup_of};
 
 use crate::forgetting::forget;
 use ignite_types::{List, Mem, Message, NodeId, Share, ShareState, Stored, TopVer, TxId};
-use node_state::{BackupName, BackupShare};
+use node_state::BackupShare;
 use node_steps::Node;
 use std::alloc::Global;
 
@@ -54,17 +54,11 @@ fn commit_backup(node: &mut Node, tx: TxId, primary: NodeId, share: BackupShare)
     node.put_backup(tx, primary, kept)
 }
 
-fn drop_backup(node: &mut Node, tx: TxId, primary: NodeId)
-    ensures { node.new ≡ without_backup node.old tx primary }
-{
-    let _dropped = node.state.backups.remove(&BackupName { tx, primary });
-}
-
 /// A Prepared share is committed, and any is dropped by a rollback.
 fn finish_backup(node: &mut Node, tx: TxId, primary: NodeId, commit: bool) -> Mem<()>
     ensures { OnOk result (node.new ≡ after_backup_finish_of node.old tx primary commit (backup_of node.old tx primary)) }
 {
-    let Some(share) = node.state.backups.get(&BackupName { tx, primary }) else {
+    let Some(share) = node.backup(tx, primary) else {
         return Ok(());
     };
     match (commit, share.state) {
@@ -74,7 +68,7 @@ fn finish_backup(node: &mut Node, tx: TxId, primary: NodeId, commit: bool) -> Me
         }
         (true, _) => Ok(()),
         (false, _) => {
-            drop_backup(node, tx, primary);
+            node.drop_backup(tx, primary);
             Ok(())
         }
     }

@@ -6,8 +6,7 @@ ghost use Rattle.part_model.specs.Tables.{keys_where};
 
 use ignite_types::{List, Mem, ShareState, TxId};
 use node_state::{BackupName, BackupShare, OwnShare};
-use node_steps::{Node, remove_each};
-use ordered_table::Table;
+use node_steps::Node;
 use std::alloc::Global;
 
 /// Whether `other` is an earlier transaction of the same session whose share is Committed.
@@ -22,11 +21,11 @@ fn is_old(tx: &TxId, other: &TxId, state: ShareState) -> bool
     }
 }
 
-fn old_shares(alloc: Global, shares: &Table<TxId, OwnShare>, tx: &TxId) -> Mem<List<TxId>>
+fn old_shares(alloc: Global, shares: &[(TxId, OwnShare)], tx: &TxId) -> Mem<List<TxId>>
     ensures { IfOk result (λ old. old ≡ keys_where (λ e. is_forgettable tx.now e.0 e.1.state) shares.now) }
 {
     let mut old = List::new(alloc);
-    for (other, share) in shares.as_slice() {
+    for (other, share) in shares {
         if is_old(tx, other, share.state) {
             old.push(*other)?;
         }
@@ -36,13 +35,13 @@ fn old_shares(alloc: Global, shares: &Table<TxId, OwnShare>, tx: &TxId) -> Mem<L
 
 fn old_backups(
     alloc: Global,
-    backups: &Table<BackupName, BackupShare>,
+    backups: &[(BackupName, BackupShare)],
     tx: &TxId,
 ) -> Mem<List<BackupName>>
     ensures { IfOk result (λ old. old ≡ keys_where (λ e. is_forgettable tx.now e.0.tx e.1.state) backups.now) }
 {
     let mut old = List::new(alloc);
-    for (name, share) in backups.as_slice() {
+    for (name, share) in backups {
         if is_old(tx, &name.tx, share.state) {
             old.push(*name)?;
         }
@@ -54,9 +53,9 @@ fn old_backups(
 pub fn forget(node: &mut Node, tx: &TxId) -> Mem<()>
     ensures { OnOk result (node.new ≡ after_forget node.old tx.now) }
 {
-    let shares = old_shares(node.alloc, &node.state.shares, tx)?;
-    let backups = old_backups(node.alloc, &node.state.backups, tx)?;
-    remove_each(&mut node.state.shares, shares.as_slice());
-    remove_each(&mut node.state.backups, backups.as_slice());
+    let shares = old_shares(node.alloc, node.shares(), tx)?;
+    let backups = old_backups(node.alloc, node.backups(), tx)?;
+    node.drop_shares(shares.as_slice());
+    node.drop_backups(backups.as_slice());
     Ok(())
 }

@@ -34,7 +34,7 @@ fn next_tx(node: &Node, session: u32, started: u64) -> TxId
     ensures { result ≡ next_tx node.now session started }
 {
     TxId {
-        node: node.state.me,
+        node: node.me(),
         session,
         number: started.saturating_add(1),
     }
@@ -71,7 +71,7 @@ fn begin(
         Some(_) => node.answer(session, Answer::TransactionOpen),
         None => {
             let next = next_tx(node, session, started);
-            let deadline = deadline_at(node.state.now, timeout);
+            let deadline = deadline_at(node.clock(), timeout);
             open(node, next, mode, deadline, true)?;
             node.answer(session, Answer::Done)
         }
@@ -178,7 +178,7 @@ fn on_end(
 fn sleep(node: &mut Node, session: u32, moments: u64) -> Mem<()>
     ensures { OnOk result (node.new ≡ after_sleep node.old session moments) }
 {
-    let wake = later(node.state.now, moments);
+    let wake = later(node.clock(), moments);
     let Some(mut session_state) = node.take_session_state(session) else {
         return Ok(());
     };

@@ -67,7 +67,7 @@ fn answer_for(node: &Node, session_state: &SessionState) -> Option<Answer>
 {
     match session_state.ready {
         Some(answer) => Some(answer),
-        None => slept(node.state.now, session_state.wake),
+        None => slept(node.clock(), session_state.wake),
     }
 }
 

@@ -22,7 +22,7 @@ fn is_start(command: &Command) -> bool
 fn start(node: &mut Node, tx: TxId, block: bool, command: &Command) -> Mem<()>
     ensures { OnOk result (node.new ≡ after_start node.old tx block command.now) }
 {
-    let top = node.state.seen;
+    let top = node.seen();
     fix_version(node, tx, top)?;
     node.note(Rec::Start { tx, top })?;
     run_command(node, tx, top, block, command)
@@ -69,7 +69,7 @@ fn sessions_of(node: &Node) -> Mem<List<u32>>
     ensures { IfOk result (λ sessions. sessions ≡ sessions_of node.now) }
 {
     let mut sessions = List::new(node.alloc);
-    for (session, _) in node.state.session_states.as_slice() {
+    for (session, _) in node.session_states() {
         sessions.push(*session)?;
     }
     Ok(sessions)

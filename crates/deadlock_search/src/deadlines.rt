@@ -41,7 +41,7 @@ pub fn is_overdue(node: &Node, tx: &TxId) -> bool
     ensures { result ≡ is_overdue node.now tx.now }
 {
     match node.entry(tx) {
-        Some(entry) => is_reached(node.state.now, live_deadline(entry)),
+        Some(entry) => is_reached(node.clock(), live_deadline(entry)),
         None => false,
     }
 }
@@ -67,12 +67,12 @@ pub fn sooner(now: u64, best: Option<u64>, moment: Option<u64>) -> Option<u64>
 pub fn next_moment(node: &Node) -> Option<u64>
     ensures { result ≡ next_moment node.now }
 {
-    let now = node.state.now;
+    let now = node.clock();
     let mut best = None;
-    for (_, entry) in node.state.txs.as_slice() {
+    for (_, entry) in node.entries() {
         best = sooner(now, best, live_deadline(entry));
     }
-    for (_, session_state) in node.state.session_states.as_slice() {
+    for (_, session_state) in node.session_states() {
         best = sooner(now, best, session_state.wake);
     }
     best

@@ -63,7 +63,7 @@ fn begin_search(node: &mut Node, tx: TxId) -> Mem<()>
     ensures { OnOk result (node.new ≡ after_begin_search node.old tx) }
 {
     let mut members = Set::new(node.alloc);
-    add_members(&mut members, node.state.members.as_slice())?;
+    add_members(&mut members, node.members())?;
     let search = new_search(node.alloc, members.as_slice(), tx)?;
     let mut known = List::new(node.alloc);
     known.push(tx)?;

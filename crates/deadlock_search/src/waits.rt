@@ -17,7 +17,7 @@ pub fn on_edges(node: &mut Node, from: NodeId, tx: TxId, round: u32, of: &[TxId]
         round,
         waits: noted,
     })?;
-    let act = node.state.acts;
+    let act = node.acts();
     node.send(
         from,
         Message::EdgesOk {

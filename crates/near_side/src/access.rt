@@ -94,7 +94,7 @@ pub(crate) fn do_known(
 fn is_near(node: &Node, key: &Key) -> bool
     ensures { result ≡ is_near_kept node.now key.now }
 {
-    node.near_size(key) != 0 && !node.holds(node.state.me, key)
+    node.near_size(key) != 0 && !node.holds(node.me(), key)
 }
 
 /// A near entry is used: it comes to the front and counts as read.

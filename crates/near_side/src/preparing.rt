@@ -57,7 +57,7 @@ fn shares_in(alloc: Global, map: &PartMap, keys: &[Key]) -> Mem<Set<Share>>
 pub fn shares_of(node: &Node, keys: &[Key]) -> Mem<Set<Share>>
     ensures { IfOk result (λ shares. shares ≡ shares_of node.now.installed keys.now) }
 {
-    match &node.state.installed {
+    match node.installed() {
         Some(map) => shares_in(node.alloc, map, keys),
         None => Ok(Set::new(node.alloc)),
     }

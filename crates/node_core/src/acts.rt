@@ -1,43 +1,25 @@
 //! The acts of a node.
 
 ghost use Rattle.std.specs.Prelude.{◌≡◌, [], OnOk, IfOk};
-ghost use Rattle.std.specs.Option.{option_copied};
-ghost use Rattle.act_rows.specs.Acts.{after_event_effects, after_message, after_see, answer_act, call_act, expire_act, join_act, message_act, minor_act, oldest_out, see_act, send_act, with_act_begun};
+ghost use Rattle.act_rows.specs.Acts.{after_event_effects, after_message, after_see, answer_act, call_act, expire_act, join_act, message_act, minor_act, see_act, with_act_begun};
 ghost use Rattle.act_rows.specs.Closing.{after_closing_rules};
 
 use crate::closing::close;
 use crate::messages::on_message;
 use client_sessions::{on_answer, on_call};
 use deadlock_search::{on_expire, search_saw_leave};
-use ignite_types::{List, Mem, Message, NodeId, Out, Rec, TopoEvent, TxId};
+use ignite_types::{List, Mem, Message, NodeId, Rec, TopoEvent, TxId};
 use node_steps::Node;
-use partition_exchange::{learn, learn_all};
+use partition_exchange::learn_all;
 use prepare_finish::primary_saw_leave;
-use std::mem;
 use tx_decisions::near_side_saw_leave;
 use tx_recovery::begin_round;
-
-/// An act begins: it counts, and nothing is noted yet.
-pub fn begin_act(node: &mut Node)
-    ensures { node.new ≡ with_act_begun node.old }
-{
-    node.state.acts = node.state.acts.saturating_add(1);
-    node.state.noted = List::new(node.alloc);
-}
-
-/// What the act has noted is taken.
-fn take_notes(node: &mut Node) -> List<Rec>
-    ensures notes { result ≡ node.old.noted }
-    ensures rest { node.new ≡ record node.old { noted = [] } }
-{
-    mem::replace(&mut node.state.noted, List::new(node.alloc))
-}
 
 /// What a message does, with the closing rules at its end.
 fn act_on(node: &mut Node, from: NodeId, message: &Message) -> Mem<()>
     ensures { OnOk result (node.new ≡ after_closing_rules (after_message (with_act_begun node.old) from message.now)) }
 {
-    begin_act(node);
+    node.begin_act();
     on_message(node, from, message)?;
     close(node)
 }
@@ -48,7 +30,7 @@ pub fn take_message(node: &mut Node, from: NodeId, message: Message) -> Mem<List
     ensures recs { IfOk result (λ recs. recs ≡ (message_act node.old from message).recs) }
 {
     act_on(node, from, &message)?;
-    let notes = take_notes(node);
+    let notes = node.take_notes();
     let mut recs = List::with_capacity(node.alloc, notes.len() + 1)?;
     recs.push(Rec::Deliver { from, message })?;
     recs.append(notes)?;
@@ -74,8 +56,8 @@ fn bring(node: &mut Node, place: u64, event: &TopoEvent) -> Mem<()>
 fn see_event(node: &mut Node, event: &TopoEvent) -> Mem<()>
     ensures { OnOk result (node.new ≡ after_see node.old node.old.read event.now) }
 {
-    let place = node.state.read;
-    learn(node, event)?;
+    let place = node.events_read();
+    node.learn(event)?;
     node.note(Rec::See {
         place: place as usize,
     })?;
@@ -86,7 +68,7 @@ fn see_event(node: &mut Node, event: &TopoEvent) -> Mem<()>
 fn see_on(node: &mut Node, event: &TopoEvent) -> Mem<()>
     ensures { OnOk result (node.new ≡ after_closing_rules (after_see (with_act_begun node.old) node.old.read event.now)) }
 {
-    begin_act(node);
+    node.begin_act();
     see_event(node, event)?;
     close(node)
 }
@@ -97,7 +79,7 @@ pub fn see(node: &mut Node, event: &TopoEvent) -> Mem<List<Rec>>
     ensures recs { IfOk result (λ recs. recs ≡ (see_act node.old event.now).recs) }
 {
     see_on(node, event)?;
-    Ok(take_notes(node))
+    Ok(node.take_notes())
 }
 
 /// Joins: learns the events before its own Join and the clock, and reads that Join. Answers the records of the act.
@@ -114,10 +96,10 @@ pub fn expire(node: &mut Node, tx: TxId) -> Mem<List<Rec>>
     ensures state { OnOk result (node.new ≡ (expire_act node.old tx).state) }
     ensures recs { IfOk result (λ recs. recs ≡ (expire_act node.old tx).recs) }
 {
-    begin_act(node);
+    node.begin_act();
     on_expire(node, tx)?;
     close(node)?;
-    Ok(take_notes(node))
+    Ok(node.take_notes())
 }
 
 /// Takes the next command of a session. Answers the records of the act.
@@ -125,10 +107,10 @@ pub fn take_call(node: &mut Node, session: u32) -> Mem<List<Rec>>
     ensures state { OnOk result (node.new ≡ (call_act node.old session).state) }
     ensures recs { IfOk result (λ recs. recs ≡ (call_act node.old session).recs) }
 {
-    begin_act(node);
+    node.begin_act();
     on_call(node, session)?;
     close(node)?;
-    Ok(take_notes(node))
+    Ok(node.take_notes())
 }
 
 /// Gives a session its answer. Answers the records of the act.
@@ -136,34 +118,14 @@ pub fn give_answer(node: &mut Node, session: u32) -> Mem<List<Rec>>
     ensures state { OnOk result (node.new ≡ (answer_act node.old session).state) }
     ensures recs { IfOk result (λ recs. recs ≡ (answer_act node.old session).recs) }
 {
-    begin_act(node);
+    node.begin_act();
     on_answer(node, session)?;
-    Ok(take_notes(node))
+    Ok(node.take_notes())
 }
 
 /// Begins the late switch of owners. The act notes nothing.
 pub fn begin_minor(node: &mut Node)
     ensures { node.new ≡ (minor_act node.old).state }
 {
-    begin_act(node);
-}
-
-/// The oldest message of the outbox.
-pub fn oldest_out(node: &Node) -> Option<&Out>
-    ensures { option_copied result ≡ oldest_out node.now }
-{
-    node.state.outbox.get(0)
-}
-
-/// Takes the oldest message out of the outbox.
-pub fn pop_out(node: &mut Node) -> Option<Out>
-    ensures out { result ≡ oldest_out node.old }
-    ensures rest { node.new ≡ (send_act node.old).state }
-{
-    begin_act(node);
-    if node.state.outbox.is_empty() {
-        None
-    } else {
-        Some(node.state.outbox.remove(0))
-    }
+    node.begin_act();
 }

@@ -7,9 +7,9 @@ ghost use Rattle.act_rows.specs.Exchange.{is_kept_commit};
 ghost use Rattle.act_rows.specs.Steps.{entry_of};
 
 use client_sessions::start_all;
-use ignite_types::{List, Mem, Message, ShareState, TopVer, TxId};
+use ignite_types::{List, Mem, Message, PartMap, TopVer, TxId};
 use node_state::{BackupName, BackupShare, OwnShare, TxEntry, TxState};
-use node_steps::Node;
+use node_steps::{Node, is_kept_commit};
 use plain_copies::Duplicate;
 use prepare_finish::shares_go_on;
 use tx_decisions::{decide, end, txs_of};
@@ -73,15 +73,6 @@ fn all_over(txs: &[(TxId, TxEntry)]) -> bool
     true
 }
 
-fn is_kept_commit(state: ShareState) -> bool
-    ensures { result ≡ is_kept_commit state }
-{
-    match state {
-        ShareState::Committed => true,
-        _ => false,
-    }
-}
-
 /// Whether all shares are Committed, with no finish in work.
 fn all_done(shares: &[(TxId, OwnShare)]) -> bool
     ensures { result ≡ all_shares_done shares.now }
@@ -109,10 +100,10 @@ fn all_committed_backups(backups: &[(BackupName, BackupShare)]) -> bool
 fn is_drained(node: &Node) -> bool
     ensures { result ≡ is_drained node.now }
 {
-    all_over(node.state.txs.as_slice())
+    all_over(node.entries())
         && node.is_free()
-        && all_done(node.state.shares.as_slice())
-        && all_committed_backups(node.state.backups.as_slice())
+        && all_done(node.shares())
+        && all_committed_backups(node.backups())
         && is_calm(node)
 }
 
@@ -128,28 +119,31 @@ fn was_sent(top: TopVer, sent: Option<TopVer>) -> bool
 fn owes_single(node: &Node) -> bool
     ensures { result ≡ owes_single node.now }
 {
-    !node.is_installed(node.state.seen)
-        && !was_sent(node.state.seen, node.state.single_sent)
+    !node.is_installed(node.seen())
+        && !was_sent(node.seen(), node.single_sent())
         && is_drained(node)
+}
+
+/// A copy of the installed map.
+fn installed_map(node: &Node) -> Mem<Option<PartMap>>
+    ensures { IfOk result (λ map. map ≡ node.now.installed) }
+{
+    match node.installed() {
+        Some(map) => Ok(Some(map.copy(node.alloc)?)),
+        None => Ok(None),
+    }
 }
 
 /// A drained node that has not installed the last version seen sends its Single once.
 fn send_single(node: &mut Node) -> Mem<()>
     ensures { OnOk result (node.new ≡ after_send_single node.old) }
 {
-    let top = node.state.seen;
-    let map = node.state.installed.copy(node.alloc)?;
-    let complete = complete_parts(node)?;
+    let top = node.seen();
+    let map = installed_map(node)?;
+    let complete = List::from_slice(node.alloc, node.complete_parts())?;
     let oldest = node.oldest();
-    node.state.single_sent = Some(top);
+    node.set_single_sent(top);
     node.send_to_oldest(Message::Single { top, map, complete }, oldest)
-}
-
-/// The partitions that are complete here.
-fn complete_parts(node: &Node) -> Mem<List<u32>>
-    ensures { IfOk result (λ parts. parts ≡ node.now.complete) }
-{
-    List::from_slice(node.alloc, node.state.complete.as_slice())
 }
 
 /// The closing rules: the primary's shares go on first, then the near side; what starts goes on in the same act.

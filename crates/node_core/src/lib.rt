@@ -7,10 +7,7 @@ mod messages;
 mod opening;
 mod showing;
 
-pub use acts::{
-    begin_act, begin_minor, expire, give_answer, join, oldest_out, pop_out, see, take_call,
-    take_message,
-};
+pub use acts::{begin_minor, expire, give_answer, join, see, take_call, take_message};
 pub use node_steps::Node;
 pub use opening::{new_node, opening_map_of};
 pub use showing::{may_answer, may_call, may_send, session_over};

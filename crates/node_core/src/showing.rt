@@ -26,7 +26,7 @@ pub fn may_answer(node: &Node, session: u32) -> bool
 pub fn may_send(node: &Node) -> bool
     ensures { result ≡ may_send node.now }
 {
-    node.state.outbox.get(0).is_some()
+    node.oldest_out().is_some()
 }
 
 /// Whether the session is at the end of its script, with no command pending.

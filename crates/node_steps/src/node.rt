@@ -88,7 +88,7 @@ pub struct Node {
     pub(crate) readers: Readers,
     /// The near cache of each cache that has one, the most recent entry first.
     pub(crate) near: Nears,
-    pub state: NodeParts,
+    pub(crate) state: NodeParts,
 }
 
 impl Model for Node {

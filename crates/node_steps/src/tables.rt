@@ -17,7 +17,7 @@ use part_model::{Phase, Progress};
 use std::alloc::Global;
 
 /// Takes these keys out of a table.
-pub fn remove_each<K: Ord + Copy, V: Drop>(table: &mut Table<K, V>, keys: &[K])
+pub(crate) fn remove_each<K: Ord + Copy, V: Drop>(table: &mut Table<K, V>, keys: &[K])
     ensures { table.new ≡ without_each K.cmp table.old keys.now }
 {
     for key in keys {

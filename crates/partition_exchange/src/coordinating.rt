@@ -6,7 +6,7 @@ ghost use Rattle.act_rows.specs.Exchange.{after_compute, after_compute_if_all, a
 ghost use Rattle.part_model.specs.NextMap.{single_of};
 ghost use Rattle.part_model.specs.Orders.{is_lower_top};
 ghost use Rattle.ignite_types.specs.Names.{same_node, same_top};
-ghost use Rattle.partition_exchange.specs.Coordinating.{publishes, with_single};
+ghost use Rattle.partition_exchange.specs.Coordinating.{publishes};
 
 use crate::installing::install;
 use crate::opening::on_opens;
@@ -16,15 +16,14 @@ use node_steps::{Node, add_members, outs_to};
 use ordered_set::Set;
 use part_map::next_map;
 use plain_copies::Duplicate;
-use std::mem;
 
 /// The members of the last version seen but this node.
 fn others(node: &Node) -> Mem<Set<NodeId>>
     ensures { IfOk result (λ others. others ≡ others_seen node.now) }
 {
     let mut others = Set::new(node.alloc);
-    add_members(&mut others, node.state.members.as_slice())?;
-    others.remove(&node.state.me);
+    add_members(&mut others, node.members())?;
+    others.remove(&node.me());
     Ok(others)
 }
 
@@ -41,7 +40,7 @@ fn open_for_all(node: &mut Node, top: TopVer) -> Mem<()>
 {
     let others = others(node)?;
     let outs = outs_to(node.alloc, others.as_slice(), &Message::Opens { top })?;
-    node.state.exchange = None;
+    node.drop_exchange();
     node.send_all(outs)?;
     on_opens(node, top)
 }
@@ -51,8 +50,8 @@ fn count(node: &mut Node, exchange: Exchange) -> Mem<()>
     ensures { OnOk result (node.new ≡ after_count node.old exchange) }
 {
     let top = exchange.top;
-    let all = all_installed(node.state.members.as_slice(), &exchange.installed);
-    node.state.exchange = Some(exchange);
+    let all = all_installed(node.members(), &exchange.installed);
+    node.put_exchange(exchange);
     if all { open_for_all(node, top) } else { Ok(()) }
 }
 
@@ -82,7 +81,7 @@ fn singles_under(node: &Node, top: TopVer) -> Mem<List<Single>>
     ensures { IfOk result (λ singles. singles ≡ singles_under node.now top) }
 {
     let mut under = List::new(node.alloc);
-    for single in node.state.singles.as_slice() {
+    for single in node.singles() {
         if single.top == top {
             under.push(single.copy(node.alloc)?)?;
         }
@@ -101,10 +100,9 @@ fn keep_above(singles: &mut Vec<Single>, top: TopVer)
 fn drop_singles(node: &mut Node, top: TopVer)
     ensures { node.new ≡ without_singles node.old top }
 {
-    let singles = mem::replace(&mut node.state.singles, List::new(node.alloc));
-    let mut kept = singles.into_vec();
+    let mut kept = node.take_singles().into_vec();
     keep_above(&mut kept, top);
-    node.state.singles = List::from_vec(kept);
+    node.put_singles(List::from_vec(kept));
 }
 
 /// Whether this node computes the map of the last version seen: it is the oldest member, has no such map, and each member's
@@ -112,28 +110,22 @@ fn drop_singles(node: &mut Node, top: TopVer)
 fn may_compute(node: &Node) -> bool
     ensures { result ≡ may_compute node.now }
 {
-    let seen = node.state.seen;
-    node.is_oldest()
-        && !node.is_installed(seen)
-        && all_sent(
-            node.state.members.as_slice(),
-            node.state.singles.as_slice(),
-            seen,
-        )
+    let seen = node.seen();
+    node.is_oldest() && !node.is_installed(seen) && all_sent(node.members(), node.singles(), seen)
 }
 
 /// The map of the last version seen.
 fn next_map_seen(node: &Node) -> Mem<PartMap>
     ensures { IfOk result (λ map. map ≡ next_map_seen node.now) }
 {
-    let seen = node.state.seen;
+    let seen = node.seen();
     let singles = singles_under(node, seen)?;
     next_map(
         node.alloc,
         seen,
-        node.state.members.as_slice(),
-        node.state.caches.as_slice(),
-        node.state.running.as_slice(),
+        node.members(),
+        node.caches(),
+        node.running(),
         singles.as_slice(),
     )
 }
@@ -157,7 +149,7 @@ fn alone(node: &Node) -> Mem<Set<NodeId>>
     ensures { IfOk result (λ nodes. nodes ≡ node.now.me ∷ []) }
 {
     let mut nodes = Set::new(node.alloc);
-    nodes.insert(node.state.me)?;
+    nodes.insert(node.me())?;
     Ok(nodes)
 }
 
@@ -182,12 +174,6 @@ fn compute_if_all(node: &mut Node) -> Mem<()>
     }
 }
 
-fn keep_single(node: &mut Node, single: Single) -> Mem<()>
-    ensures { OnOk result (node.new ≡ with_single node.old single) }
-{
-    node.state.singles.push(single)
-}
-
 /// Single: kept under its version; with the last one the map is computed.
 pub fn on_single(
     node: &mut Node,
@@ -204,7 +190,7 @@ pub fn on_single(
         map,
         complete,
     };
-    keep_single(node, single)?;
+    node.keep_single(single)?;
     compute_if_all(node)
 }
 
@@ -222,7 +208,7 @@ fn is_newer(map: &PartMap, installed: Option<&PartMap>) -> bool
 pub fn on_full(node: &mut Node, from: NodeId, map: PartMap) -> Mem<()>
     ensures { OnOk result (node.new ≡ after_full node.old from map) }
 {
-    if is_newer(&map, node.state.installed.as_ref()) {
+    if is_newer(&map, node.installed()) {
         let top = map.top;
         install(node, map)?;
         node.send(from, Message::Installed { top })
@@ -235,14 +221,14 @@ pub fn on_full(node: &mut Node, from: NodeId, map: PartMap) -> Mem<()>
 pub fn on_installed(node: &mut Node, from: NodeId, top: TopVer) -> Mem<()>
     ensures { OnOk result (node.new ≡ after_installed node.old from top) }
 {
-    let Some(mut exchange) = node.state.exchange.take() else {
+    let Some(mut exchange) = node.take_exchange() else {
         return Ok(());
     };
     if exchange.top == top {
         exchange.installed.insert(from)?;
         count(node, exchange)
     } else {
-        node.state.exchange = Some(exchange);
+        node.put_exchange(exchange);
         Ok(())
     }
 }
@@ -258,8 +244,7 @@ fn keep_others(singles: &mut Vec<Single>, node: NodeId)
 pub fn drop_single(node: &mut Node, lost: NodeId)
     ensures { node.new ≡ without_single node.old lost }
 {
-    let singles = mem::replace(&mut node.state.singles, List::new(node.alloc));
-    let mut kept = singles.into_vec();
+    let mut kept = node.take_singles().into_vec();
     keep_others(&mut kept, lost);
-    node.state.singles = List::from_vec(kept);
+    node.put_singles(List::from_vec(kept));
 }

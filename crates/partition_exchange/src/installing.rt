@@ -5,11 +5,9 @@ ghost use Rattle.act_rows.specs.Exchange.{after_install, is_kept_commit, kept_co
 ghost use Rattle.part_model.specs.NextMap.{has_node};
 ghost use Rattle.part_model.specs.Tables.{keys_where};
 
-use ignite_types::{List, Mem, NodeId, PartMap, Rec, Row, ShareState, TxId};
+use ignite_types::{List, Mem, NodeId, PartMap, Rec, Row, TxId};
 use node_state::{BackupName, BackupShare, OwnShare};
-use node_steps::{Node, has_node, remove_each};
-use ordered_set::Set;
-use ordered_table::Table;
+use node_steps::{Node, has_node, is_kept_commit};
 use plain_copies::Duplicate;
 use std::alloc::Global;
 
@@ -28,26 +26,16 @@ fn owned_parts(alloc: Global, me: NodeId, rows: &[Row]) -> Mem<List<bool>>
 fn keep_owned(node: &mut Node, rows: &[Row]) -> Mem<()>
     ensures { OnOk result (node.new ≡ record node.old { stores = kept_copies node.old.me node.old.stores rows.now }) }
 {
-    let owned = owned_parts(node.alloc, node.state.me, rows)?;
+    let owned = owned_parts(node.alloc, node.me(), rows)?;
     node.keep_copies(owned.as_slice());
     Ok(())
 }
 
-/// Whether a share is kept of a commit that has ended.
-fn is_kept_commit(state: ShareState) -> bool
-    ensures { result ≡ is_kept_commit state }
-{
-    match state {
-        ShareState::Committed => true,
-        _ => false,
-    }
-}
-
-fn committed_shares(alloc: Global, shares: &Table<TxId, OwnShare>) -> Mem<List<TxId>>
+fn committed_shares(alloc: Global, shares: &[(TxId, OwnShare)]) -> Mem<List<TxId>>
     ensures { IfOk result (λ txs. txs ≡ keys_where (λ e. is_kept_commit e.1.state) shares.now) }
 {
     let mut txs = List::new(alloc);
-    for (tx, share) in shares.as_slice() {
+    for (tx, share) in shares {
         if is_kept_commit(share.state) {
             txs.push(*tx)?;
         }
@@ -55,14 +43,11 @@ fn committed_shares(alloc: Global, shares: &Table<TxId, OwnShare>) -> Mem<List<T
     Ok(txs)
 }
 
-fn committed_backups(
-    alloc: Global,
-    backups: &Table<BackupName, BackupShare>,
-) -> Mem<List<BackupName>>
+fn committed_backups(alloc: Global, backups: &[(BackupName, BackupShare)]) -> Mem<List<BackupName>>
     ensures { IfOk result (λ names. names ≡ keys_where (λ e. is_kept_commit e.1.state) backups.now) }
 {
     let mut names = List::new(alloc);
-    for (name, share) in backups.as_slice() {
+    for (name, share) in backups {
         if is_kept_commit(share.state) {
             names.push(*name)?;
         }
@@ -76,15 +61,13 @@ pub fn install(node: &mut Node, map: PartMap) -> Mem<()>
 {
     let alloc = node.alloc;
     let noted = map.copy(alloc)?;
-    let txs = committed_shares(alloc, &node.state.shares)?;
-    let names = committed_backups(alloc, &node.state.backups)?;
+    let txs = committed_shares(alloc, node.shares())?;
+    let names = committed_backups(alloc, node.backups())?;
     keep_owned(node, map.rows.as_slice())?;
     node.clear_near();
     node.clear_readers();
-    node.state.installed = Some(map);
-    remove_each(&mut node.state.shares, txs.as_slice());
-    remove_each(&mut node.state.backups, names.as_slice());
-    node.state.complete = Set::new(alloc);
-    node.state.claims = Set::new(alloc);
+    node.set_installed(map);
+    node.drop_shares(txs.as_slice());
+    node.drop_backups(names.as_slice());
     node.note(Rec::Install { map: noted })
 }

@@ -9,4 +9,4 @@ mod seeing;
 pub use coordinating::{drop_single, on_full, on_installed, on_single};
 pub use installing::install;
 pub use opening::on_opens;
-pub use seeing::{learn, learn_all};
+pub use seeing::learn_all;

@@ -12,7 +12,7 @@ use rebalance::demand;
 pub fn on_opens(node: &mut Node, top: TopVer) -> Mem<()>
     ensures { OnOk result (node.new ≡ after_opens node.old top) }
 {
-    node.state.opened = Some(top);
+    node.set_opened(top);
     node.note(Rec::Opened { top })?;
     start_all(node)?;
     demand(node)

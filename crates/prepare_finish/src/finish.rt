@@ -122,7 +122,7 @@ fn commit_share(
         (with_finish_begun (after_apply_each node.old tx top node.old.me writes.now) tx Committed from backups (near_waits node.old writes.now))
         (backup_finish_outs tx node.old.me true backups ++ near_outs node.old tx writes.now)) }
 {
-    let me = node.state.me;
+    let me = node.me();
     let near = near_waits(node, writes)?;
     let updates = near_outs(node, tx, writes)?;
     let mut outs = backup_finish_outs(node.alloc, tx, me, true, backups.as_slice())?;
@@ -136,7 +136,7 @@ fn commit_share(
 fn undo_share(node: &mut Node, from: NodeId, tx: TxId, backups: List<NodeId>) -> Mem<()>
     ensures { OnOk result (node.new ≡ after_undo_share node.old from tx backups) }
 {
-    let me = node.state.me;
+    let me = node.me();
     let outs = backup_finish_outs(node.alloc, tx, me, false, backups.as_slice())?;
     let near = List::new(node.alloc);
     begin_finish(node, tx, ShareState::Undoing, from, backups, near)?;
@@ -199,7 +199,7 @@ fn backup_finished(node: &mut Node, from: NodeId, tx: TxId) -> Mem<()>
 pub fn on_own_backup_finished(node: &mut Node, from: NodeId, tx: TxId, primary: NodeId) -> Mem<()>
     ensures { OnOk result (node.new ≡ after_backup_finished_at_primary node.old from tx primary) }
 {
-    if primary == node.state.me {
+    if primary == node.me() {
         backup_finished(node, from, tx)
     } else {
         Ok(())
@@ -230,19 +230,13 @@ fn end_finish(node: &mut Node, tx: TxId) -> Mem<()>
     node.put_share(tx, share)
 }
 
-fn drop_share(node: &mut Node, tx: TxId)
-    ensures { node.new ≡ after_finished_share node.old tx Undoing }
-{
-    let _dropped = node.state.shares.remove(&tx);
-}
-
 /// A finished share stays as Committed, or is dropped.
 fn leave_share(node: &mut Node, tx: TxId, state: ShareState) -> Mem<()>
     ensures { OnOk result (node.new ≡ after_finished_share node.old tx state) }
 {
     match state {
         ShareState::Undoing => {
-            drop_share(node, tx);
+            node.drop_share(&tx);
             Ok(())
         }
         _ => end_finish(node, tx),
@@ -314,7 +308,7 @@ fn own_txs(node: &Node) -> Mem<List<TxId>>
     ensures { IfOk result (λ txs. txs ≡ own_txs node.now) }
 {
     let mut txs = List::new(node.alloc);
-    for (tx, _) in node.state.shares.as_slice() {
+    for (tx, _) in node.shares() {
         txs.push(*tx)?;
     }
     Ok(txs)

@@ -22,8 +22,8 @@ fn draw(node: &Node, top: TopVer, writes: &[(Key, Option<Value>)]) -> Mem<(List<
     ensures last { IfOk result (λ r. r.1 ≡ last_drawn node.now.order writes.now) }
 {
     let mut entries = List::new(node.alloc);
-    let mut order = node.state.order;
-    let me = node.state.me;
+    let mut order = node.last_order();
+    let me = node.me();
     for (key, value) in writes {
         order = order.saturating_add(1);
         let ver = CacheVersion {
@@ -46,7 +46,7 @@ pub(crate) fn without_me(node: &Node, nodes: &[NodeId]) -> Mem<List<NodeId>>
 {
     let mut others = List::new(node.alloc);
     for other in nodes {
-        if *other != node.state.me {
+        if *other != node.me() {
             others.push(*other)?;
         }
     }
@@ -57,7 +57,7 @@ pub(crate) fn without_me(node: &Node, nodes: &[NodeId]) -> Mem<List<NodeId>>
 pub(crate) fn backups_for(node: &Node, shares: &[Share]) -> Mem<List<NodeId>>
     ensures { IfOk result (λ nodes. nodes ≡ backups_for node.now shares.now) }
 {
-    let holders = node.live_holders(shares, node.state.me)?;
+    let holders = node.live_holders(shares, node.me())?;
     without_me(node, holders.as_slice())
 }
 
@@ -86,7 +86,7 @@ fn backup_prepare_outs(
     ensures { IfOk result (λ outs. outs ≡ backup_prepare_outs node.now tx top shares.now writes.now holders.now) }
 {
     let mut outs = List::new(node.alloc);
-    let primary = node.state.me;
+    let primary = node.me();
     for holder in holders {
         let to = *holder;
         let msg = Message::BackupPrepare {
@@ -145,7 +145,7 @@ fn draw_share(
 {
     let (entries, order) = draw(node, top, writes)?;
     let backups = backups_for(node, shares.as_slice())?;
-    node.state.order = order;
+    node.set_last_order(order);
     begin_share(node, tx, top, shares, entries, backups)
 }
 

@@ -13,7 +13,7 @@ use std::alloc::Global;
 pub(crate) fn rows(node: &Node) -> &[Row]
     ensures { result.now ≡ rows_of node.now }
 {
-    match &node.state.installed {
+    match node.installed() {
         Some(map) => map.rows.as_slice(),
         None => &[],
     }
@@ -57,6 +57,6 @@ fn demand_outs(alloc: Global, me: NodeId, top: TopVer, rows: &[Row]) -> Mem<List
 pub fn demand(node: &mut Node) -> Mem<()>
     ensures { OnOk result (node.new ≡ after_send_demands node.old) }
 {
-    let outs = demand_outs(node.alloc, node.state.me, node.installed_top(), rows(node))?;
+    let outs = demand_outs(node.alloc, node.me(), node.installed_top(), rows(node))?;
     node.send_all(outs)
 }

@@ -9,7 +9,6 @@ ghost use Rattle.rebalance.specs.Movers.{all_claim, has_mover};
 use crate::demanding::rows;
 use ignite_types::limits::BATCH_ENTRIES;
 use ignite_types::{Key, List, Mem, Message, NodeId, Row, Stored, TopVer};
-use node_state::Claim;
 use node_steps::{Node, has_node};
 use partition_store::Batch;
 
@@ -80,7 +79,7 @@ fn all_filled(node: &Node) -> bool
 {
     let mut part = 0u32;
     for row in rows(node) {
-        if has_node(row.movers.as_slice(), node.state.me) && !node.state.complete.contains(&part) {
+        if has_node(row.movers.as_slice(), node.me()) && !node.is_complete(part) {
             return false;
         }
         part = part.saturating_add(1);
@@ -105,7 +104,7 @@ fn complete(node: &mut Node, top: TopVer, part: u32) -> Mem<()>
     ensures { OnOk result (node.new ≡ after_complete_part node.old top part) }
 {
     drop_copy_tombstones(node, part);
-    node.state.complete.insert(part)?;
+    node.keep_complete(part)?;
     claim_if_all(node, top)
 }
 
@@ -161,15 +160,7 @@ pub fn on_supply(
 pub fn on_complete(node: &mut Node, from: NodeId, top: TopVer) -> Mem<()>
     ensures { OnOk result (node.new ≡ after_complete node.old from top) }
 {
-    node.state.claims.insert(Claim { top, node: from })
-}
-
-/// Whether the node's claim of the last version seen came.
-fn has_claim(node: &Node, mover: NodeId) -> bool
-    ensures { result ≡ has_claim node.now mover }
-{
-    let top = node.state.seen;
-    node.state.claims.contains(&Claim { top, node: mover })
+    node.keep_claim(from, top)
 }
 
 /// Whether a partition has a mover.
@@ -183,7 +174,7 @@ fn has_mover(rows: &[Row]) -> bool
 fn claimed_by(node: &Node, movers: &[NodeId]) -> bool
     ensures { result ≡ list_all (has_claim node.now) movers.now }
 {
-    movers.iter().all(|mover| has_claim(node, *mover))
+    movers.iter().all(|mover| node.has_claim(*mover))
 }
 
 /// Whether each mover of these rows has claimed.
@@ -207,7 +198,7 @@ pub fn may_switch(node: &Node) -> bool
     ensures { result ≡ may_switch node.now }
 {
     node.is_oldest()
-        && node.is_installed(node.state.seen)
+        && node.is_installed(node.seen())
         && node.is_open()
         && all_claimed(node, rows(node))
 }

@@ -16,7 +16,7 @@ pub fn txs_of(node: &Node) -> Mem<List<TxId>>
     ensures { IfOk result (λ txs. txs ≡ txs_of node.now) }
 {
     let mut txs = List::new(node.alloc);
-    for (tx, _) in node.state.txs.as_slice() {
+    for (tx, _) in node.entries() {
         txs.push(*tx)?;
     }
     Ok(txs)

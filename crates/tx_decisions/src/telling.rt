@@ -30,18 +30,12 @@ fn told_session_state(fault: &Fault, command: &Command, session_state: SessionSt
     next
 }
 
-fn drop_entry(node: &mut Node, tx: &TxId)
-    ensures { node.new ≡ without_tx node.old tx.now }
-{
-    let _gone = node.state.txs.remove(tx);
-}
-
 /// The session is told the fault of its transaction, by this command; further accesses of a block are skipped.
 #[tactic(auto, using(act_rows::proofs::TableLaws::nat_put_put))]
 pub fn tell(node: &mut Node, tx: TxId, fault: &Fault, command: &Command) -> Mem<()>
     ensures { OnOk result (node.new ≡ after_tell node.old tx fault.now command.now) }
 {
-    drop_entry(node, &tx);
+    node.drop_entry(&tx);
     let Some(session_state) = node.take_session_state(tx.session) else {
         return Ok(());
     };
@@ -103,7 +97,7 @@ fn closing_answer(state: TxState, outcome: Option<Answer>) -> Answer
 fn close(node: &mut Node, tx: TxId, answer: Answer) -> Mem<()>
     ensures { OnOk result (node.new ≡ after_close_tx node.old tx answer) }
 {
-    drop_entry(node, &tx);
+    node.drop_entry(&tx);
     let Some(mut session_state) = node.take_session_state(tx.session) else {
         return Ok(());
     };

@@ -20,7 +20,7 @@ fn own_txs(node: &Node) -> Mem<List<TxId>>
     ensures { IfOk result (λ txs. txs ≡ keys_in node.now.shares) }
 {
     let mut txs = List::new(node.alloc);
-    for (tx, _) in node.state.shares.as_slice() {
+    for (tx, _) in node.shares() {
         txs.push(*tx)?;
     }
     Ok(txs)
@@ -31,7 +31,7 @@ fn backup_txs(node: &Node) -> Mem<List<TxId>>
     ensures { IfOk result (λ txs. txs ≡ backup_txs node.now.backups) }
 {
     let mut txs = List::new(node.alloc);
-    for (name, _) in node.state.backups.as_slice() {
+    for (name, _) in node.backups() {
         txs.push(name.tx)?;
     }
     Ok(txs)
@@ -66,8 +66,8 @@ fn held_backups(node: &Node, tx: &TxId) -> Mem<Table<Share, ShareState>>
     ensures { IfOk result (λ held. held ≡ held_backups node.now.me node.now.backups tx.now) }
 {
     let mut held = Table::new(node.alloc);
-    let holder = node.state.me;
-    for (name, backup) in node.state.backups.as_slice() {
+    let holder = node.me();
+    for (name, backup) in node.backups() {
         if name.tx == *tx {
             let primary = name.primary;
             held.set(Share { holder, primary }, backup.state)?;
@@ -82,7 +82,7 @@ fn held_of(node: &Node, tx: &TxId) -> Mem<List<(Share, ShareState)>>
 {
     let mut held = held_backups(node, tx)?;
     if let Some(share) = node.share(tx) {
-        let me = node.state.me;
+        let me = node.me();
         let own = Share {
             holder: me,
             primary: me,
@@ -96,7 +96,7 @@ fn held_of(node: &Node, tx: &TxId) -> Mem<List<(Share, ShareState)>>
 fn backup_shares(node: &Node, tx: &TxId) -> Mem<List<Share>>
     ensures { IfOk result (λ shares. shares ≡ backup_shares node.now.backups tx.now) }
 {
-    for (name, backup) in node.state.backups.as_slice() {
+    for (name, backup) in node.backups() {
         if name.tx == *tx {
             return List::from_slice(node.alloc, backup.shares.as_slice());
         }

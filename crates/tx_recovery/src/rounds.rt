@@ -22,7 +22,7 @@ fn reports_for(node: &Node, place: u64) -> Mem<List<Report>>
     ensures { IfOk result (λ reports. reports ≡ reports_for node.now.reports place) }
 {
     let mut reports = List::new(node.alloc);
-    for report in node.state.reports.as_slice() {
+    for report in node.reports() {
         if report.round == place {
             reports.push(Report {
                 round: report.round,
@@ -175,20 +175,10 @@ fn give_verdict(
     let nodes = finish_nodes(node, shares, lockers)?;
     let backups = orphaned(node, shares)?;
     let outs = verdict_outs(node, tx, commit, shares, nodes.as_slice())?;
-    node.state.verdicts.set(tx, commit)?;
+    node.keep_verdict(tx, commit)?;
     node.note(Rec::Decide { tx, commit })?;
     await_verdict(node, tx, nodes.as_slice(), backups.as_slice())?;
     node.send_all(outs)
-}
-
-/// The verdict that was given in an earlier round.
-fn kept_verdict(node: &Node, tx: &TxId) -> Option<bool>
-    ensures { result ≡ at tx_cmp node.now.verdicts tx.now }
-{
-    match node.state.verdicts.get(tx) {
-        Some(commit) => Some(*commit),
-        None => None,
-    }
 }
 
 /// One transaction that was named.
@@ -202,7 +192,7 @@ fn judge(
     ensures { OnOk result (node.new ≡ after_judge node.old tx members.now orphans.now lockers.now) }
 {
     let settled = is_settled(node.alloc, orphans)?;
-    let kept = kept_verdict(node, &tx);
+    let kept = node.verdict(&tx);
     let commit = verdict(node.alloc, kept, orphans, members)?;
     if settled {
         Ok(())
@@ -226,8 +216,9 @@ fn judge_each(node: &mut Node, members: &[Member], reports: &[Report], txs: &[Tx
 fn set_acted(node: &mut Node)
     ensures { node.new ≡ with_round_acted node.old }
 {
-    if let Some(round) = &mut node.state.round {
+    if let Some(mut round) = node.take_round() {
         round.acted = true;
+        node.put_round(round);
     }
 }
 
@@ -244,7 +235,7 @@ fn is_recoverer(node: &Node, round: &Round) -> bool
     ensures { result ≡ is_recoverer node.now round.now }
 {
     match oldest_member(round.members.as_slice()) {
-        Some(oldest) => node.state.me == oldest,
+        Some(oldest) => node.me() == oldest,
         None => false,
     }
 }
@@ -253,12 +244,13 @@ fn is_recoverer(node: &Node, round: &Round) -> bool
 fn recover_if_all(node: &mut Node) -> Mem<()>
     ensures { OnOk result (node.new ≡ after_recover_if_all node.old node.old.round) }
 {
-    let Some(round) = &node.state.round else {
+    let here = &*node;
+    let Some(round) = here.round() else {
         return Ok(());
     };
-    if is_recoverer(node, round) && !round.acted {
-        let members = List::from_slice(node.alloc, round.members.as_slice())?;
-        let reports = reports_for(node, round.place)?;
+    if is_recoverer(here, round) && !round.acted {
+        let members = List::from_slice(here.alloc, round.members.as_slice())?;
+        let reports = reports_for(here, round.place)?;
         if all_reported(members.as_slice(), reports.as_slice()) {
             act_on_round(node, members.as_slice(), reports.as_slice())
         } else {
@@ -273,7 +265,7 @@ fn recover_if_all(node: &mut Node) -> Mem<()>
 pub fn on_orphans(node: &mut Node, from: NodeId, round: u64, list: List<Orphan>) -> Mem<()>
     ensures { OnOk result (node.new ≡ after_orphans node.old from round list) }
 {
-    node.state.reports.push(Report { round, from, list })?;
+    node.keep_report(Report { round, from, list })?;
     recover_if_all(node)
 }
 
@@ -298,7 +290,7 @@ fn send_orphans(node: &mut Node, round: u64) -> Mem<()>
 fn new_round(node: &mut Node, place: u64) -> Mem<()>
     ensures { OnOk result (node.new ≡ with_new_round node.old place) }
 {
-    let members = List::from_slice(node.alloc, node.state.members.as_slice())?;
+    let members = List::from_slice(node.alloc, node.members())?;
     let round = Round {
         place,
         members,
@@ -306,7 +298,7 @@ fn new_round(node: &mut Node, place: u64) -> Mem<()>
         finishes: Set::new(node.alloc),
         backups: Set::new(node.alloc),
     };
-    node.state.round = Some(round);
+    node.put_round(round);
     Ok(())
 }
 
@@ -322,7 +314,7 @@ pub fn begin_round(node: &mut Node, place: u64) -> Mem<()>
 pub fn is_calm(node: &Node) -> bool
     ensures { result ≡ is_recovery_settled node.now node.now.round }
 {
-    match &node.state.round {
+    match node.round() {
         Some(round) => {
             !is_recoverer(node, round)
                 || (round.acted && round.finishes.len() == 0 && round.backups.len() == 0)

@@ -40,21 +40,22 @@ pub(crate) fn await_verdict(
 ) -> Mem<()>
     ensures { OnOk result (node.new ≡ with_verdict_awaited node.old tx nodes.now backups.now) }
 {
-    match &mut node.state.round {
-        Some(round) => {
-            add_finishes(&mut round.finishes, tx, nodes)?;
-            add_backups(&mut round.backups, tx, backups)
-        }
-        None => Ok(()),
-    }
+    let Some(mut round) = node.take_round() else {
+        return Ok(());
+    };
+    add_finishes(&mut round.finishes, tx, nodes)?;
+    add_backups(&mut round.backups, tx, backups)?;
+    node.put_round(round);
+    Ok(())
 }
 
 /// Finished, to the recoverer.
 pub fn on_recovery_finished(node: &mut Node, from: NodeId, tx: TxId)
     ensures { node.new ≡ after_finished_at_recoverer node.old from tx }
 {
-    if let Some(round) = &mut node.state.round {
+    if let Some(mut round) = node.take_round() {
         round.finishes.remove(&FinishWait { tx, node: from });
+        node.put_round(round);
     }
 }
 
@@ -62,11 +63,12 @@ pub fn on_recovery_finished(node: &mut Node, from: NodeId, tx: TxId)
 pub fn on_recovery_backup_finished(node: &mut Node, from: NodeId, tx: TxId, primary: NodeId)
     ensures { node.new ≡ after_backup_finished_at_recoverer node.old from tx primary }
 {
-    if let Some(round) = &mut node.state.round {
+    if let Some(mut round) = node.take_round() {
         round.backups.remove(&BackupWait {
             tx,
             primary,
             holder: from,
         });
+        node.put_round(round);
     }
 }

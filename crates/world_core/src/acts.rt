@@ -7,9 +7,7 @@ ghost use Rattle.world_core.specs.Run.{KeepsPast, next_for};
 
 use crate::world::World;
 use ignite_types::{List, Mem, Message, NodeId, Out, Rec, TopoEvent, TxId};
-use node_core::{
-    begin_minor, expire, give_answer, may_answer, oldest_out, pop_out, see, take_call, take_message,
-};
+use node_core::{begin_minor, expire, give_answer, may_answer, see, take_call, take_message};
 use plain_copies::Duplicate;
 
 impl World {
@@ -142,13 +140,13 @@ impl World {
         if self.parts.len() <= place {
             return Ok(self.no_records());
         }
-        let addressee = match oldest_out(&self.parts[place].node) {
+        let addressee = match self.parts[place].node.oldest_out() {
             Some(out) => self.place_of(out.to),
             None => None,
         };
         let part = &mut self.parts[place];
-        let from = part.node.state.me;
-        match pop_out(&mut part.node) {
+        let from = part.node.me();
+        match part.node.pop_out() {
             Some(Out { to, msg }) => {
                 let message = msg.copy(self.alloc)?;
                 self.reach(from, msg, addressee)?;
@@ -165,7 +163,7 @@ impl World {
         ensures { result ≡ next_for self.now.now (part_on self.now.now place) }
     {
         match self.part_on(place) {
-            Some(part) => self.directory.event(part.node.state.read).copied(),
+            Some(part) => self.directory.event(part.node.events_read()).copied(),
             None => None,
         }
     }

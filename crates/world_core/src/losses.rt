@@ -43,7 +43,7 @@ fn best_without(parts: &[Part], id: NodeId) -> Option<&PartMap>
     let mut best = None;
     for part in parts {
         if part.outlives(id) {
-            best = newer(best, part.node.state.installed.as_ref());
+            best = newer(best, part.node.installed());
         }
     }
     best

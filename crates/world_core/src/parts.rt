@@ -40,7 +40,7 @@ impl Part {
     pub(crate) fn id(&self) -> NodeId
         ensures { result ≡ self.now.node.me }
     {
-        self.node.state.me
+        self.node.me()
     }
 
     /// Whether the node is alive, and not the one that is lost.
@@ -48,7 +48,7 @@ impl Part {
         ensures { result ≡ outlives lost self.now }
     {
         if is_alive(self.life) {
-            self.node.state.me != lost
+            self.node.me() != lost
         } else {
             false
         }
@@ -58,7 +58,7 @@ impl Part {
     fn lose(&mut self, lost: NodeId)
         ensures { self.new ≡ part_after_loss lost self.old }
     {
-        if self.node.state.me == lost {
+        if self.node.me() == lost {
             self.life = Life::Gone;
         } else if is_alive(self.life) {
             drop_single(&mut self.node, lost);
@@ -84,7 +84,7 @@ impl Part {
         ensures { self.new ≡ part_at_moment to self.old }
     {
         if is_alive(self.life) {
-            self.node.state.now = to;
+            self.node.set_clock(to);
         }
     }
 }

@@ -38,7 +38,7 @@ impl World {
         ensures { OnOk result (events.new ≡ events.old ++ possible_of self.now.now (map event.Send (node_ids self.now.now))) }
     {
         for part in self.parts.as_slice() {
-            let event = Event::Send(part.node.state.me);
+            let event = Event::Send(part.node.me());
             if self.can_be(&event) {
                 events.push(event)?;
             }
@@ -50,7 +50,7 @@ impl World {
         ensures { OnOk result (events.new ≡ events.old ++ possible_of self.now.now (map event.See (node_ids self.now.now))) }
     {
         for part in self.parts.as_slice() {
-            let event = Event::See(part.node.state.me);
+            let event = Event::See(part.node.me());
             if self.can_be(&event) {
                 events.push(event)?;
             }
@@ -62,7 +62,7 @@ impl World {
         ensures { OnOk result (events.new ≡ events.old ++ possible_of self.now.now (map event.Minor (node_ids self.now.now))) }
     {
         for part in self.parts.as_slice() {
-            let event = Event::Minor(part.node.state.me);
+            let event = Event::Minor(part.node.me());
             if self.can_be(&event) {
                 events.push(event)?;
             }
@@ -103,7 +103,7 @@ impl World {
     {
         let inbox = self.inbox_of(id);
         for part in self.parts.as_slice() {
-            let from = part.node.state.me;
+            let from = part.node.me();
             if can_take(from, inbox) {
                 events.push(Event::Act(id, from))?;
             }

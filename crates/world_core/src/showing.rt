@@ -66,7 +66,7 @@ impl World {
         ensures { result ≡ can_be self.now.now (event.See id) }
     {
         match self.node_at(id) {
-            Some(node) => self.directory.event(node.state.read).is_some(),
+            Some(node) => self.directory.event(node.events_read()).is_some(),
             None => false,
         }
     }
@@ -84,7 +84,7 @@ impl World {
         ensures { result ≡ can_be self.now.now (event.Minor id) }
     {
         match self.node_at(id) {
-            Some(node) => may_switch(node) && node.state.seen == self.directory.last(),
+            Some(node) => may_switch(node) && node.seen() == self.directory.last(),
             None => false,
         }
     }

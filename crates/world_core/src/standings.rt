@@ -77,7 +77,7 @@ impl Part {
             return None;
         }
         match self.node.first_wait(tx) {
-            Some(wait) => Some(Standing::Queued(self.node.state.me, wait)),
+            Some(wait) => Some(Standing::Queued(self.node.me(), wait)),
             None => None,
         }
     }
@@ -102,7 +102,7 @@ fn older_in(seen: TopVer, parts: &[Part]) -> Option<TxId>
     let mut first = None;
     for part in parts {
         if is_alive(part.life) {
-            first = first_older(seen, first, part.node.state.txs.as_slice());
+            first = first_older(seen, first, part.node.entries());
         }
     }
     first
@@ -134,7 +134,7 @@ impl World {
         ensures { result ≡ held_link_from self.now.now from (node_ids self.now.now) }
     {
         for part in self.parts.as_slice() {
-            let to = part.node.state.me;
+            let to = part.node.me();
             if keeps_back(from, self.inbox_on(self.place_of(to))) {
                 return Some(Standing::Held(from, to));
             }
@@ -147,7 +147,7 @@ impl World {
         ensures { result ≡ held_link self.now.now (node_ids self.now.now) }
     {
         for part in self.parts.as_slice() {
-            if let Some(standing) = self.held_from(part.node.state.me) {
+            if let Some(standing) = self.held_from(part.node.me()) {
                 return Some(standing);
             }
         }
@@ -160,7 +160,7 @@ impl World {
         match entry {
             Some(entry) => {
                 if entry.top.is_none() {
-                    unopened(node.state.seen, self.parts.as_slice())
+                    unopened(node.seen(), self.parts.as_slice())
                 } else {
                     None
                 }
@@ -198,7 +198,7 @@ impl World {
         ensures { result ≡ standing_unless_lost self.now.now node.now life tx.now }
     {
         match life {
-            Life::Gone => Standing::Lost(node.state.me),
+            Life::Gone => Standing::Lost(node.me()),
             _ => self.waits_for(node, tx),
         }
     }

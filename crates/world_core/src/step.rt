@@ -7,7 +7,6 @@ ghost use Rattle.world_core.specs.Run.{KeepsPast, run_after};
 
 use crate::world::World;
 use ignite_types::{Event, Group, List, Mem, NodeId, Rec};
-use node_core::begin_act;
 
 impl World {
     /// A node has no memory left: its act counts, and nothing is possible any more.
@@ -26,7 +25,7 @@ impl World {
             return Ok(recs);
         }
         let part = &mut self.parts[place];
-        begin_act(&mut part.node);
+        part.node.begin_act();
         Ok(recs)
     }
 

@@ -43,7 +43,7 @@ impl Model for World {
 fn place_of(parts: &[Part], id: NodeId) -> Option<usize>
     ensures { result ≡ position (λ (p : PartValue). same_node p.node.me id) parts.now }
 {
-    parts.iter().position(|part| part.node.state.me == id)
+    parts.iter().position(|part| part.node.me() == id)
 }
 
 impl World {

@@ -4,5 +4,5 @@ use Rattle.part_model.specs.Tables.{keys_where}
 use Rattle.backup_sync.proofs.forgetting.old_backups.Given as goal
 
 abbrev pub invariant-loop-name : goal.invariant-loop-name
-invariant-loop-name l = l.old ++ keys_where (λ e. is_forgettable l.tx e.0.tx e.1.state) (drop l.name-index l.name-items)
-    ≡ keys_where (λ e. is_forgettable l.tx e.0.tx e.1.state) l.name-items
+invariant-loop-name l = l.old ++ keys_where (λ e. is_forgettable l.tx e.0.tx e.1.state) (drop l.name-index l.backups)
+    ≡ keys_where (λ e. is_forgettable l.tx e.0.tx e.1.state) l.backups

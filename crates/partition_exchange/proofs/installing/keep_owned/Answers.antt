@@ -4,5 +4,5 @@ use Rattle.partition_exchange.proofs.installing.keep_owned.Goals as goal
 
 pub returns : goal.returns
 returns c =
-    rw (c.keep_copies.ensures, c.as_slice.ensures, c.in_ok-owned.ensures, ← c.node.view_is)
-    (rw (kept_by_rows c.node.inside.state.me c.node.inside.stores c.args.rows.now) refl)
+    rw (c.keep_copies.ensures, c.as_slice.ensures, c.in_ok-owned.ensures, c.me.ensures)
+    (rw (kept_by_rows c.args.node.now.me c.args.node.now.stores c.args.rows.now) refl)
