@@ -36,10 +36,10 @@ use Rattle.ignite_types.specs.declared.scenario.Mode.TheVariants as mode
 use Rattle.ignite_types.specs.declared.message.Message.TheVariants as msg
 use Rattle.node_state.specs.declared.near.TxState.TheVariants as state
 use Rattle.frame_laws.proofs.Plain.{prepare_plain}
-use Rattle.frame_laws.specs.Kits.{ClosedUnderSteps}
+use Rattle.frame_laws.specs.Kits.{ClosedUnderWatchedSteps}
 use Rattle.frame_laws.proofs.Kits.{either_kept, sent_kept}
 
-module _ (R : NodeState → NodeState → Type 0) (kit : ClosedUnderSteps R) where
+module _ {watched : Bool} (R : NodeState → NodeState → Type 0) (kit : ClosedUnderWatchedSteps watched R) where
   pub keeps_read_kept : (s : NodeState) (tx : TxId) (key : Key) (read : Read) → R s (with_read s tx key read)
   keeps_read_kept s tx key read =
       on_entry_kept R kit s tx (λ (e : TxEntry). record e { reads = put key_cmp e.reads key read }) (entry_of s tx)

@@ -1,6 +1,6 @@
 -- Every act keeps what each row keeps.
-use Rattle.std.proofs.Common.{ℕ}
-use Rattle.frame_laws.specs.Kits.{ClosedUnderAllSteps, ClosedUnderSteps}
+use Rattle.std.proofs.Common.{Bool, ◌≡◌, refl, ℕ}
+use Rattle.frame_laws.specs.Kits.{ClosedUnderAllSteps, ClosedUnderAllWatchedSteps, ClosedUnderWatchedSteps}
 use Rattle.frame_laws.proofs.Accesses.{get_ok_row_kept, lock_ok_row_kept, near_backup_finished_kept, near_finished_kept, near_update_row_kept, prepare_fail_row_kept, prepared_row_kept}
 use Rattle.frame_laws.proofs.Backups.{backup_finish_row_kept, backup_prepare_row_kept}
 use Rattle.frame_laws.proofs.Closing.{closed_kept}
@@ -18,19 +18,21 @@ use Rattle.act_rows.specs.Closing.{after_closing_rules}
 use Rattle.act_rows.specs.Commands.{after_answer, after_call}
 use Rattle.act_rows.specs.Decisions.{after_left_at_starter}
 use Rattle.act_rows.specs.Exchange.{after_learn}
+use Rattle.act_rows.specs.Filling.{after_complete}
 use Rattle.act_rows.specs.Primary.{after_backup_finished_at_primary, after_left_at_primary}
 use Rattle.act_rows.specs.Recovery.{after_begin_round}
 use Rattle.act_rows.specs.Searches.{after_expire}
 use Rattle.ignite_types.specs.declared.journal.TopoEvent.{TopoEvent}
 use Rattle.ignite_types.specs.declared.message.Message.{Message}
 use Rattle.ignite_types.specs.declared.names.NodeId.{NodeId}
+use Rattle.ignite_types.specs.declared.names.TopVer.{TopVer}
 use Rattle.ignite_types.specs.declared.names.TxId.{TxId}
 use Rattle.node_state.specs.Node.{NodeState}
 use Rattle.ignite_types.specs.declared.journal.TopoEvent.TheVariants as topo
 use Rattle.ignite_types.specs.declared.message.Message.TheVariants as msg
 
-module _ (R : NodeState → NodeState → Type 0) (all : ClosedUnderAllSteps R) where
-  abbrev kit : ClosedUnderSteps R
+module _ {watched : Bool} (R : NodeState → NodeState → Type 0) (all : ClosedUnderAllWatchedSteps watched R) where
+  abbrev kit : ClosedUnderWatchedSteps watched R
   kit = all.plain
 
   finished_row_kept : (s : NodeState) (from : NodeId) (tx : TxId) → R s (after_finished s from tx)
@@ -46,36 +48,38 @@ module _ (R : NodeState → NodeState → Type 0) (all : ClosedUnderAllSteps R) 
       (kit.andthen own near (after_backup_finished s from tx primary) (near_backup_finished_kept R kit own from tx primary)
       (recovery_backup_finished_kept R kit near from tx primary))
 
-  message_row_kept : (s : NodeState) (from : NodeId) (m : Message) → R s (after_message s from m)
-  message_row_kept s from (msg.Lock tx top key) = lock_row_kept R kit s from tx top key
-  message_row_kept s from (msg.LockOk tx key found) = lock_ok_row_kept R kit s tx key found
-  message_row_kept s from (msg.Get tx key near) = get_row_kept R kit s from tx key near
-  message_row_kept s from (msg.GetOk tx key found) = get_ok_row_kept R kit s tx key found
-  message_row_kept s from (msg.Prepare tx top mode shares wanted writes) =
+  -- claims may be watched: the row of Complete is for the caller to show
+  pub message_row_kept : (s : NodeState) (from : NodeId) (m : Message) →
+      ((top : TopVer) → m ≡ msg.Complete top → R s (after_complete s from top)) → R s (after_message s from m)
+  message_row_kept s from (msg.Lock tx top key) complete = lock_row_kept R kit s from tx top key
+  message_row_kept s from (msg.LockOk tx key found) complete = lock_ok_row_kept R kit s tx key found
+  message_row_kept s from (msg.Get tx key near) complete = get_row_kept R kit s from tx key near
+  message_row_kept s from (msg.GetOk tx key found) complete = get_ok_row_kept R kit s tx key found
+  message_row_kept s from (msg.Prepare tx top mode shares wanted writes) complete =
       prepare_row_kept R kit s from tx top mode shares wanted writes
-  message_row_kept s from (msg.Prepared tx) = prepared_row_kept R kit s from tx
-  message_row_kept s from (msg.PrepareFail tx why) = prepare_fail_row_kept R kit s tx why
-  message_row_kept s from (msg.Finish tx commit) = finish_row_kept R kit s from tx commit
-  message_row_kept s from (msg.Finished tx) = finished_row_kept s from tx
-  message_row_kept s from (msg.Edges tx round asked) = edges_row_kept R kit s from tx round asked
-  message_row_kept s from (msg.EdgesOk tx round act waits) = edges_ok_row_kept R kit s from tx round act waits
-  message_row_kept s from (msg.BackupPrepare tx top shares primary writes) =
+  message_row_kept s from (msg.Prepared tx) complete = prepared_row_kept R kit s from tx
+  message_row_kept s from (msg.PrepareFail tx why) complete = prepare_fail_row_kept R kit s tx why
+  message_row_kept s from (msg.Finish tx commit) complete = finish_row_kept R kit s from tx commit
+  message_row_kept s from (msg.Finished tx) complete = finished_row_kept s from tx
+  message_row_kept s from (msg.Edges tx round asked) complete = edges_row_kept R kit s from tx round asked
+  message_row_kept s from (msg.EdgesOk tx round act waits) complete = edges_ok_row_kept R kit s from tx round act waits
+  message_row_kept s from (msg.BackupPrepare tx top shares primary writes) complete =
       backup_prepare_row_kept R kit s from tx top shares primary writes
-  message_row_kept s from (msg.BackupPrepared tx) = backup_prepared_row_kept R kit s from tx
-  message_row_kept s from (msg.BackupFinish tx primary commit) = backup_finish_row_kept R kit s from tx primary commit
-  message_row_kept s from (msg.BackupFinished tx primary) = backup_finished_row_kept s from tx primary
-  message_row_kept s from (msg.NearUpdate tx key new ver) = near_update_row_kept R kit s from tx key new ver
-  message_row_kept s from (msg.NearDone tx key) = near_done_row_kept R kit s from tx key
-  message_row_kept s from (msg.Single top m complete) = single_row_kept R all s from top m complete
-  message_row_kept s from (msg.Full m) = full_row_kept R all s from m
-  message_row_kept s from (msg.Installed top) = installed_row_kept R all s from top
-  message_row_kept s from (msg.Opens top) = opens_row_kept R all s top
-  message_row_kept s from (msg.Demand top part after) = demand_row_kept R kit s from top part after
-  message_row_kept s from (msg.Supply top part entries last) = supply_row_kept R kit s from top part entries last
-  message_row_kept s from (msg.Complete top) = complete_row_kept R kit s from top
-  message_row_kept s from (msg.Orphans round list) = orphans_row_kept R kit s from round list
+  message_row_kept s from (msg.BackupPrepared tx) complete = backup_prepared_row_kept R kit s from tx
+  message_row_kept s from (msg.BackupFinish tx primary commit) complete = backup_finish_row_kept R kit s from tx primary commit
+  message_row_kept s from (msg.BackupFinished tx primary) complete = backup_finished_row_kept s from tx primary
+  message_row_kept s from (msg.NearUpdate tx key new ver) complete = near_update_row_kept R kit s from tx key new ver
+  message_row_kept s from (msg.NearDone tx key) complete = near_done_row_kept R kit s from tx key
+  message_row_kept s from (msg.Single top m parts) complete = single_row_kept R all s from top m parts
+  message_row_kept s from (msg.Full m) complete = full_row_kept R all s from m
+  message_row_kept s from (msg.Installed top) complete = installed_row_kept R all s from top
+  message_row_kept s from (msg.Opens top) complete = opens_row_kept R all s top
+  message_row_kept s from (msg.Demand top part after) complete = demand_row_kept R kit s from top part after
+  message_row_kept s from (msg.Supply top part entries last) complete = supply_row_kept R kit s from top part entries last
+  message_row_kept s from (msg.Complete top) complete = complete top refl
+  message_row_kept s from (msg.Orphans round list) complete = orphans_row_kept R kit s from round list
 
-  brings_kept : (s : NodeState) (place : ℕ) (event : TopoEvent) → R s (after_event_effects s place event)
+  pub brings_kept : (s : NodeState) (place : ℕ) (event : TopoEvent) → R s (after_event_effects s place event)
   brings_kept s place (topo.Left gone) =
       let near = after_left_at_starter s gone in
       let primary = after_left_at_primary near gone in
@@ -89,15 +93,10 @@ module _ (R : NodeState → NodeState → Type 0) (all : ClosedUnderAllSteps R) 
   brings_kept s place (topo.Start cache) = kit.nothing s
   brings_kept s place (topo.Stop cache) = kit.nothing s
 
-  then_closed_kept : (a b : NodeState) → R a b → R a (after_closing_rules b)
+  pub then_closed_kept : (a b : NodeState) → R a b → R a (after_closing_rules b)
   then_closed_kept a b first = kit.andthen a b (after_closing_rules b) first (closed_kept R all b)
 
   -- what an act brings once it has begun; seeing a topology event is two parts, with its record between them
-  pub message_kept : (s : NodeState) (from : NodeId) (m : Message) →
-      R (with_act_begun s) (after_closing_rules (after_message (with_act_begun s) from m))
-  message_kept s from m = then_closed_kept (with_act_begun s) (after_message (with_act_begun s) from m)
-      (message_row_kept (with_act_begun s) from m)
-
   pub learning_kept : (s : NodeState) (event : TopoEvent) → R (with_act_begun s) (after_learn (with_act_begun s) event)
   learning_kept s event = learns_kept R all (with_act_begun s) event
 
@@ -117,3 +116,12 @@ module _ (R : NodeState → NodeState → Type 0) (all : ClosedUnderAllSteps R) 
 
   pub answer_kept : (s : NodeState) (session : ℕ) → R (with_act_begun s) (after_answer (with_act_begun s) session)
   answer_kept s session = answer_row_kept R kit (with_act_begun s) session
+
+module _ (R : NodeState → NodeState → Type 0) (all : ClosedUnderAllSteps R) where
+  pub row_kept : (s : NodeState) (from : NodeId) (m : Message) → R s (after_message s from m)
+  row_kept s from m = message_row_kept R all s from m (λ top is. complete_row_kept R all.plain s from top)
+
+  pub message_kept : (s : NodeState) (from : NodeId) (m : Message) →
+      R (with_act_begun s) (after_closing_rules (after_message (with_act_begun s) from m))
+  message_kept s from m = then_closed_kept R all (with_act_begun s) (after_message (with_act_begun s) from m)
+      (row_kept (with_act_begun s) from m)

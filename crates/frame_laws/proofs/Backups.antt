@@ -18,10 +18,10 @@ use Rattle.ignite_types.specs.declared.placement.ShareState.TheVariants.{Prepari
 use Rattle.frame_laws.proofs.Primary.{forgetting_kept}
 use Rattle.frame_laws.proofs.Steps.{with_backup_kept}
 use Rattle.frame_laws.proofs.Stores.{applied_all_kept}
-use Rattle.frame_laws.specs.Kits.{ClosedUnderSteps}
+use Rattle.frame_laws.specs.Kits.{ClosedUnderWatchedSteps}
 use Rattle.frame_laws.proofs.Kits.{sent_kept}
 
-module _ (R : NodeState → NodeState → Type 0) (kit : ClosedUnderSteps R) where
+module _ {watched : Bool} (R : NodeState → NodeState → Type 0) (kit : ClosedUnderWatchedSteps watched R) where
   pub backup_prepare_row_kept : (s : NodeState) (from : NodeId) (tx : TxId) (top : TopVer) (shares : List Share)
       (primary : NodeId) (writes : List Stored) → R s (after_backup_prepare s from tx top shares primary writes)
   backup_prepare_row_kept s from tx top shares primary writes =

@@ -1,5 +1,5 @@
 -- What a node does at the end of each act extends it.
-use Rattle.std.proofs.Common.{List, [], ◌∷◌, Option, Some, None, true, refl}
+use Rattle.std.proofs.Common.{Bool, List, [], ◌∷◌, Option, Some, None, true}
 use Rattle.act_rows.specs.Decisions.{txs_of}
 use Rattle.act_rows.specs.Primary.{after_advance_shares, own_txs}
 use Rattle.act_rows.specs.Starts.{after_start_all}
@@ -17,10 +17,10 @@ use Rattle.act_rows.specs.Closing.{after_advance_each_tx, after_advance_starter,
 use Rattle.frame_laws.proofs.Primary.{shares_on_kept}
 use Rattle.frame_laws.proofs.Decisions.{decides_kept, ends_kept}
 use Rattle.frame_laws.proofs.Starts.{starts_all_kept}
-use Rattle.frame_laws.specs.Kits.{ClosedUnderAllSteps, ClosedUnderSteps}
+use Rattle.frame_laws.specs.Kits.{ClosedUnderAllWatchedSteps, ClosedUnderWatchedSteps}
 use Rattle.frame_laws.proofs.Kits.{either_kept}
 
-module _ (R : NodeState → NodeState → Type 0) (kit : ClosedUnderSteps R) where
+module _ {watched : Bool} (R : NodeState → NodeState → Type 0) (kit : ClosedUnderWatchedSteps watched R) where
   pub phase_over_kept : (s : NodeState) (tx : TxId) (e : TxEntry) (st : TxState) → R s (after_phase s tx e st)
   phase_over_kept s tx e state.Idle = kit.nothing s
   phase_over_kept s tx e state.Active = kit.nothing s
@@ -49,8 +49,8 @@ module _ (R : NodeState → NodeState → Type 0) (kit : ClosedUnderSteps R) whe
   pub near_on_kept : (s : NodeState) → R s (after_advance_starter s)
   near_on_kept s = near_on_each_kept s (txs_of s)
 
-module _ (R : NodeState → NodeState → Type 0) (all : ClosedUnderAllSteps R) where
-  abbrev kit : ClosedUnderSteps R
+module _ {watched : Bool} (R : NodeState → NodeState → Type 0) (all : ClosedUnderAllWatchedSteps watched R) where
+  abbrev kit : ClosedUnderWatchedSteps watched R
   kit = all.plain
 
   to_oldest : (s : NodeState) (m : Message) (to : Option NodeId) → R s (with_out_to_oldest s m to)
@@ -61,7 +61,7 @@ module _ (R : NodeState → NodeState → Type 0) (all : ClosedUnderAllSteps R) 
   sends_single_kept s =
       let marked = record s { single_sent = Some s.seen } in
       kit.andthen s marked (after_send_single s)
-      (all.changes s marked refl refl refl refl refl refl)
+      (all.marks_single s)
       (to_oldest marked (msg.Single s.seen s.installed s.complete) (oldest_seen s))
 
   pub single_if_drained_kept : (s : NodeState) → R s (after_single_if_drained s)

@@ -21,9 +21,9 @@ use Rattle.ignite_types.specs.declared.scenario.Command.TheVariants as command
 use Rattle.ignite_types.specs.declared.scenario.Mode.TheVariants as mode
 use Rattle.ignite_types.specs.declared.journal.Rec.TheVariants as note
 use Rattle.node_state.specs.declared.near.TxState.TheVariants as state
-use Rattle.frame_laws.specs.Kits.{ClosedUnderSteps}
+use Rattle.frame_laws.specs.Kits.{ClosedUnderWatchedSteps}
 
-module _ (R : NodeState → NodeState → Type 0) (kit : ClosedUnderSteps R) where
+module _ {watched : Bool} (R : NodeState → NodeState → Type 0) (kit : ClosedUnderWatchedSteps watched R) where
   pub opens_kept : (s : NodeState) (tx : TxId) (m : Mode) (deadline : Option ℕ) (block : Bool) →
       R s (after_open_tx s tx m deadline block)
   opens_kept s tx m deadline block =

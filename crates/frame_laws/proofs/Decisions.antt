@@ -17,10 +17,10 @@ use Rattle.ignite_types.specs.declared.answer.Fault.TheVariants as fault
 use Rattle.ignite_types.specs.declared.journal.Rec.TheVariants as note
 use Rattle.node_state.specs.declared.near.TxState.TheVariants as state
 use Rattle.frame_laws.proofs.Plain.{decision_plain, left_plain}
-use Rattle.frame_laws.specs.Kits.{ClosedUnderSteps}
+use Rattle.frame_laws.specs.Kits.{ClosedUnderWatchedSteps}
 use Rattle.frame_laws.proofs.Kits.{either_kept}
 
-module _ (R : NodeState → NodeState → Type 0) (kit : ClosedUnderSteps R) where
+module _ {watched : Bool} (R : NodeState → NodeState → Type 0) (kit : ClosedUnderWatchedSteps watched R) where
   pub takes_decision_kept : (s : NodeState) (tx : TxId) (commit : Bool) → R s (with_decision s tx commit)
   takes_decision_kept s tx commit = on_entry_kept R kit s tx (decided_entry s commit) (entry_of s tx)
 

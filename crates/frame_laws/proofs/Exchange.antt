@@ -1,57 +1,37 @@
 -- The rows of the exchange of a topology version, each of which extends the node.
-use Rattle.std.proofs.Common.{List, [], ◌∷◌, Option, Some, None, refl}
+use Rattle.std.proofs.Common.{Bool, List, [], ◌∷◌, Option, Some, None}
 use Rattle.std.specs.Prelude.{ℕ, ◌++◌}
 use Rattle.frame_laws.proofs.Starts.{starts_all_kept}
-use Rattle.act_rows.specs.Exchange.{after_compute, after_compute_if_all, after_count, after_count_installed, after_full, after_install, after_installed, after_learn, after_open_for_all, after_open_if_all, after_opens, after_send_demands, after_single, all_installed, demand_outs, is_kept_commit, is_newer_map, kept_copies, may_compute, next_map_seen, others_seen, without_single, without_singles}
+use Rattle.act_rows.specs.Exchange.{after_compute, after_compute_if_all, after_count, after_count_installed, after_full, after_install, after_installed, after_learn, after_open_for_all, after_open_if_all, after_opens, after_send_demands, after_single, all_installed, demand_outs, is_newer_map, may_compute, next_map_seen, others_seen, without_single, without_singles}
 use Rattle.act_rows.specs.Starts.{after_start_all}
-use Rattle.act_rows.specs.Steps.{backup_cmp, installed_top, outs_to, rows_of, with_note, with_out, with_outs}
-use Rattle.part_model.specs.Tables.{keys_where, without_each}
-use Rattle.ignite_types.specs.Names.{node_cmp, same_top, tx_cmp}
+use Rattle.act_rows.specs.Steps.{installed_top, outs_to, rows_of, with_note, with_out, with_outs}
+use Rattle.ignite_types.specs.Names.{node_cmp, same_top}
 use Rattle.ignite_types.specs.declared.journal.TopoEvent.{TopoEvent}
+use Rattle.ignite_types.specs.declared.message.Single.{Single}
 use Rattle.ignite_types.specs.declared.names.NodeId.{NodeId}
 use Rattle.ignite_types.specs.declared.names.TopVer.{TopVer}
-use Rattle.ignite_types.specs.declared.names.TxId.{TxId}
 use Rattle.ignite_types.specs.declared.placement.PartMap.{PartMap}
 use Rattle.node_state.specs.Node.{NodeState}
-use Rattle.node_state.specs.declared.primary.BackupName.{BackupName}
-use Rattle.node_state.specs.declared.primary.BackupShare.{BackupShare}
-use Rattle.node_state.specs.declared.primary.OwnShare.{OwnShare}
 use Rattle.node_state.specs.declared.topology.Exchange.{Exchange}
 use Rattle.ordered_set.specs.Members.{with_member}
 use Rattle.ignite_types.specs.declared.message.Message.TheVariants as msg
 use Rattle.ignite_types.specs.declared.journal.Rec.TheVariants as note
-use Rattle.frame_laws.specs.Kits.{ClosedUnderAllSteps, ClosedUnderSteps}
+use Rattle.frame_laws.specs.Kits.{ClosedUnderAllWatchedSteps, ClosedUnderWatchedSteps}
 use Rattle.frame_laws.proofs.Kits.{either_kept}
 
-module _ (R : NodeState → NodeState → Type 0) (all : ClosedUnderAllSteps R) where
-  abbrev kit : ClosedUnderSteps R
+module _ {watched : Bool} (R : NodeState → NodeState → Type 0) (all : ClosedUnderAllWatchedSteps watched R) where
+  abbrev kit : ClosedUnderWatchedSteps watched R
   kit = all.plain
 
   -- Seeing.
 
   pub learns_kept : (s : NodeState) (event : TopoEvent) → R s (after_learn s event)
-  learns_kept s event = all.changes s (after_learn s event) refl refl refl refl refl refl
+  learns_kept s event = all.learns s event
 
   -- Installing.
 
-  -- what a new map leaves, before it is noted
-  abbrev cleared : NodeState → PartMap → NodeState
-  cleared s m = record s {
-    installed = Some m;
-    stores = kept_copies s.me s.stores m.rows;
-    near = [];
-    readers = [];
-    shares = without_each tx_cmp s.shares (keys_where (λ (e : TxId × OwnShare). is_kept_commit e.1.state) s.shares);
-    backups = without_each backup_cmp s.backups (keys_where (λ (e : BackupName × BackupShare). is_kept_commit e.1.state)
-        s.backups);
-    complete = [];
-    claims = [];
-  }
-
   pub installs_kept : (s : NodeState) (m : PartMap) → R s (after_install s m)
-  installs_kept s m = kit.andthen s (cleared s m) (with_note (cleared s m) (note.Install m))
-      (all.changes s (cleared s m) refl refl refl refl refl refl)
-      (all.notes (cleared s m) (note.Install m) refl refl)
+  installs_kept s m = all.installs s m
 
   -- Opening.
 
@@ -60,11 +40,8 @@ module _ (R : NodeState → NodeState → Type 0) (all : ClosedUnderAllSteps R) 
 
   pub opens_row_kept : (s : NodeState) (top : TopVer) → R s (after_opens s top)
   opens_row_kept s top =
-      let opening : NodeState = record s { opened = Some top } in
-      let noted : NodeState = with_note opening (note.Opened top) in
-      kit.andthen s noted (after_send_demands (after_start_all noted))
-      (kit.andthen s opening noted (all.changes s opening refl refl refl refl refl refl)
-      (all.notes opening (note.Opened top) refl refl))
+      let noted : NodeState = with_note (record s { opened = Some top }) (note.Opened top) in
+      kit.andthen s noted (after_send_demands (after_start_all noted)) (all.opens s top)
       (kit.andthen noted (after_start_all noted) (after_send_demands (after_start_all noted)) (starts_all_kept R kit noted)
       (demands_kept (after_start_all noted)))
 
@@ -75,7 +52,7 @@ module _ (R : NodeState → NodeState → Type 0) (all : ClosedUnderAllSteps R) 
       let over : NodeState = record s { exchange = None } in
       let told : NodeState = with_outs over (outs_to (others_seen s) (msg.Opens top)) in
       kit.andthen s told (after_opens told top)
-      (kit.andthen s over told (all.changes s over refl refl refl refl refl refl)
+      (kit.andthen s over told (all.exchanges s None)
       (all.sends over (outs_to (others_seen s) (msg.Opens top))))
       (opens_row_kept told top)
 
@@ -87,11 +64,11 @@ module _ (R : NodeState → NodeState → Type 0) (all : ClosedUnderAllSteps R) 
   pub counts_kept : (s : NodeState) (x : Exchange) → R s (after_count s x)
   counts_kept s x =
       let here : NodeState = record s { exchange = Some x } in
-      kit.andthen s here (after_open_if_all here (Some x)) (all.changes s here refl refl refl refl refl refl)
+      kit.andthen s here (after_open_if_all here (Some x)) (all.exchanges s (Some x))
       (opens_if_all_kept here (Some x))
 
   pub without_singles_kept : (s : NodeState) (top : TopVer) → R s (without_singles s top)
-  without_singles_kept s top = all.changes s (without_singles s top) refl refl refl refl refl refl
+  without_singles_kept s top = all.drops_singles s top
 
   pub computes_kept : (s : NodeState) (m : PartMap) → R s (after_compute s m)
   computes_kept s m =
@@ -111,11 +88,9 @@ module _ (R : NodeState → NodeState → Type 0) (all : ClosedUnderAllSteps R) 
   pub single_row_kept : (s : NodeState) (from : NodeId) (top : TopVer) (m : Option PartMap) (complete : List ℕ) →
       R s (after_single s from top m complete)
   single_row_kept s from top m complete =
-      let here : NodeState = record s {
-        singles = s.singles ++ record { from = from; top = top; map = m; complete = complete } ∷ [];
-      } in
-      kit.andthen s here (after_compute_if_all here) (all.changes s here refl refl refl refl refl refl)
-      (computes_if_all_kept here)
+      let single : Single = record { from = from; top = top; map = m; complete = complete } in
+      let here : NodeState = record s { singles = s.singles ++ single ∷ [] } in
+      kit.andthen s here (after_compute_if_all here) (all.keeps_single s single) (computes_if_all_kept here)
 
   pub full_row_kept : (s : NodeState) (from : NodeId) (m : PartMap) → R s (after_full s from m)
   full_row_kept s from m = either_kept R kit s (with_out (after_install s m) from (msg.Installed m.top)) s
@@ -135,4 +110,4 @@ module _ (R : NodeState → NodeState → Type 0) (all : ClosedUnderAllSteps R) 
   installed_row_kept s from top = counts_installed_kept s from top s.exchange
 
   pub without_single_kept : (s : NodeState) (who : NodeId) → R s (without_single s who)
-  without_single_kept s who = all.changes s (without_single s who) refl refl refl refl refl refl
+  without_single_kept s who = all.drops_lost s who

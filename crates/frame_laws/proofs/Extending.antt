@@ -7,6 +7,7 @@ use Rattle.ignite_types.specs.declared.message.Out.{Out}
 use Rattle.ignite_types.specs.declared.names.NodeId.{NodeId}
 use Rattle.node_state.specs.Node.{NodeState}
 use Rattle.frame_laws.specs.Kits.{ClosedUnderAllSteps, ClosedUnderSteps, PlainFrame}
+use Rattle.act_rows.specs.Exchange.{after_install, after_learn, without_single, without_singles}
 use Rattle.act_rows.specs.Locks.{after_grant, after_leave, after_lock_behind, after_pass_on, after_release, is_owner, owner_at, with_queued}
 use Rattle.act_rows.specs.Steps.{installed_top, with_note, with_outs}
 use Rattle.ignite_types.specs.declared.names.TopVer.{TopVer}
@@ -62,17 +63,22 @@ andthen a b c first second = record {
       ∙ append_twice a.outbox first.more_sent second.more_sent;
 }
 
-noting_extends : (s : NodeState) (r : Rec) → is_own r ≡ true → OnlyAppends s (with_note s r)
-noting_extends s r own = record {
-  same_me = refl;
-  same_acts = refl;
-  same_now = refl;
+-- the same with one more record
+noted_extends : (before after : NodeState) (r : Rec) → is_own r ≡ true → after.me ≡ before.me → after.acts ≡ before.acts →
+    after.now ≡ before.now → after.noted ≡ before.noted ++ r ∷ [] → after.outbox ≡ before.outbox → OnlyAppends before after
+noted_extends before after r own me acts now noted outbox = record {
+  same_me = me;
+  same_acts = acts;
+  same_now = now;
   more_noted = r ∷ [];
-  noted_is = refl;
+  noted_is = noted;
   own = rw own refl;
   more_sent = [];
-  outbox_is = sym (append_none s.outbox);
+  outbox_is = outbox ∙ sym (append_none before.outbox);
 }
+
+noting_extends : (s : NodeState) (r : Rec) → is_own r ≡ true → OnlyAppends s (with_note s r)
+noting_extends s r own = noted_extends s (with_note s r) r own refl refl refl refl refl
 
 sent_all_extends : (s : NodeState) (outs : List Out) → OnlyAppends s (with_outs s outs)
 sent_all_extends s outs = record {
@@ -135,7 +141,14 @@ extending_plain = record {
 pub extending : ClosedUnderAllSteps OnlyAppends
 extending = record {
   plain = extending_plain;
-  changes = λ before after me acts now noted outbox queues. aside before after me acts now noted outbox;
-  notes = λ s r own lockless. noting_extends s r own;
+  learns = λ s event. aside s (after_learn s event) refl refl refl refl refl;
+  keeps_single = λ s single. aside s (record s { singles = s.singles ++ single ∷ [] }) refl refl refl refl refl;
+  drops_singles = λ s top. aside s (without_singles s top) refl refl refl refl refl;
+  drops_lost = λ s who. aside s (without_single s who) refl refl refl refl refl;
+  installs = λ s m. noted_extends s (after_install s m) (note.Install m) refl refl refl refl refl refl;
+  exchanges = λ s x. aside s (record s { exchange = x }) refl refl refl refl refl;
+  opens = λ s top. noted_extends s (with_note (record s { opened = Some top }) (note.Opened top)) (note.Opened top) refl refl
+      refl refl refl refl;
+  marks_single = λ s. aside s (record s { single_sent = Some s.seen }) refl refl refl refl refl;
   sends = sent_all_extends;
 }

@@ -14,10 +14,10 @@ use Rattle.ignite_types.specs.declared.text.Key.{Key}
 use Rattle.node_state.specs.Node.{NodeState}
 use Rattle.ordered_set.specs.Members.{with_member}
 use Rattle.ignite_types.specs.declared.message.Message.TheVariants as msg
-use Rattle.frame_laws.specs.Kits.{ClosedUnderSteps}
+use Rattle.frame_laws.specs.Kits.{ClosedUnderSteps, ClosedUnderWatchedSteps}
 use Rattle.frame_laws.proofs.Kits.{either_kept, sent_kept}
 
-module _ (R : NodeState → NodeState → Type 0) (kit : ClosedUnderSteps R) where
+module _ {watched : Bool} (R : NodeState → NodeState → Type 0) (kit : ClosedUnderWatchedSteps watched R) where
   pub demand_row_kept : (s : NodeState) (from : NodeId) (top : TopVer) (part : ℕ) (after : Option Key) →
       R s (after_demand s from top part after)
   demand_row_kept s from top part after =
@@ -54,5 +54,7 @@ module _ (R : NodeState → NodeState → Type 0) (kit : ClosedUnderSteps R) whe
       (supplied_to_kept here from top part entries last))
       (kit.nothing s)
 
+-- a claim is kept: a plain step where claims are not watched
+module _ (R : NodeState → NodeState → Type 0) (kit : ClosedUnderSteps R) where
   pub complete_row_kept : (s : NodeState) (from : NodeId) (top : TopVer) → R s (after_complete s from top)
   complete_row_kept s from top = kit.aside s (after_complete s from top) refl

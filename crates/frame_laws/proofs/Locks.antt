@@ -14,14 +14,14 @@ use Rattle.node_state.specs.Node.{NodeState}
 use Rattle.ignite_types.specs.declared.message.Message.TheVariants as msg
 use Rattle.ignite_types.specs.declared.journal.Rec.TheVariants as note
 use Rattle.act_rows.specs.Locks.{after_edges, after_get, after_lock, after_own_each, after_release, after_release_all, after_release_each, owner_at, with_queued, with_reader_if}
-use Rattle.frame_laws.specs.Kits.{ClosedUnderSteps}
+use Rattle.frame_laws.specs.Kits.{ClosedUnderWatchedSteps}
 use Rattle.frame_laws.proofs.Kits.{sent_kept}
 use Rattle.std.proofs.Common.{◌≡◌}
 use Rattle.act_rows.specs.Primary.{wanted_keys}
 use Rattle.frame_laws.proofs.Owners.{free_here, still_free}
 use Rattle.part_model.specs.Queues.{first_blocked, other_owner}
 
-module _ (R : NodeState → NodeState → Type 0) (kit : ClosedUnderSteps R) where
+module _ {watched : Bool} (R : NodeState → NodeState → Type 0) (kit : ClosedUnderWatchedSteps watched R) where
   pub lock_row_kept : (s : NodeState) (from : NodeId) (tx : TxId) (top : TopVer) (key : Key) →
       R s (after_lock s from tx top key)
   lock_row_kept = kit.placed

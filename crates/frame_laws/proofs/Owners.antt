@@ -1,10 +1,7 @@
 -- Keys that no other transaction owns.
-use Rattle.std.proofs.Common.{◌≡◌, ◌≢◌, ◌++◌, List, [], ◌∷◌, Option, Some, None, true, slice_get, unwrap_or, refl, ap, ◌∙◌, arith}
-use Rattle.std.specs.Cmp.{IsTotalOrder, then_total, on_total}
+use Rattle.std.proofs.Common.{◌≡◌, ◌≢◌, ◌++◌, List, [], ◌∷◌, Option, Some, None, slice_get, unwrap_or, refl, ap, ◌∙◌}
 use Rattle.std.specs.Ordering.{match_ordering}
 use Rattle.std.specs.declared.cmp.Ordering.TheVariants.{Less, Equal, Greater}
-use Rattle.std.proofs.lemmas.Bool.Decides.{nat_tests}
-use Rattle.std.proofs.lemmas.Cmp.{nat_cmp_total, nat_list_cmp_total}
 use Rattle.act_rows.specs.Primary.{candidate_of, or_changed}
 use Rattle.part_model.specs.Queues.{Queues, blocked_by, first_blocked, other_owner, owner_in, queue_in, queues_with, with_queue_in}
 use Rattle.ignite_types.proofs.NameLaws.{key_total, same_tx_itself}

@@ -30,13 +30,13 @@ use Rattle.frame_laws.proofs.Locks.{owns_each_kept, releases_kept}
 use Rattle.frame_laws.proofs.Steps.{on_share_kept, with_share_kept}
 use Rattle.frame_laws.proofs.Stores.{applied_all_kept}
 use Rattle.frame_laws.proofs.Plain.{both_plain, to_plain, near_plain, backup_prepare_plain}
-use Rattle.frame_laws.specs.Kits.{ClosedUnderSteps}
+use Rattle.frame_laws.specs.Kits.{ClosedUnderWatchedSteps}
 use Rattle.frame_laws.proofs.Kits.{either_kept, sent_kept}
 use Rattle.act_rows.specs.Primary.{first_changed, wanted_keys}
 use Rattle.part_model.specs.Queues.{first_blocked}
 use Rattle.frame_laws.proofs.Owners.{unblocked}
 
-module _ (R : NodeState → NodeState → Type 0) (kit : ClosedUnderSteps R) where
+module _ {watched : Bool} (R : NodeState → NodeState → Type 0) (kit : ClosedUnderWatchedSteps watched R) where
   pub forgetting_kept : (s : NodeState) (tx : TxId) → R s (after_forget s tx)
   forgetting_kept s tx = kit.aside s (after_forget s tx) refl
 

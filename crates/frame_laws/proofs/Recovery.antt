@@ -21,10 +21,10 @@ use Rattle.ordered_table.specs.Entries.{at, put}
 use Rattle.ignite_types.specs.declared.message.Message.TheVariants as msg
 use Rattle.ignite_types.specs.declared.journal.Rec.TheVariants as note
 use Rattle.frame_laws.proofs.Plain.{both_plain, lost_plain, to_plain}
-use Rattle.frame_laws.specs.Kits.{ClosedUnderSteps}
+use Rattle.frame_laws.specs.Kits.{ClosedUnderWatchedSteps}
 use Rattle.frame_laws.proofs.Kits.{either_kept}
 
-module _ (R : NodeState → NodeState → Type 0) (kit : ClosedUnderSteps R) where
+module _ {watched : Bool} (R : NodeState → NodeState → Type 0) (kit : ClosedUnderWatchedSteps watched R) where
   -- A loss begins a new round.
 
   pub sends_orphans_kept : (s : NodeState) (round : ℕ) → R s (after_send_orphans s round)

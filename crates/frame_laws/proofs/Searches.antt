@@ -1,5 +1,5 @@
 -- Timeouts, and the search for a deadlock: each row extends the node.
-use Rattle.std.proofs.Common.{List, [], ◌∷◌, Option, Some, None, if◌then◌else◌, refl}
+use Rattle.std.proofs.Common.{Bool, List, [], ◌∷◌, Option, Some, None, if◌then◌else◌, refl}
 use Rattle.std.specs.Prelude.{length, nat_eq, ℕ, ◌&&◌}
 use Rattle.frame_laws.proofs.Steps.{on_entry_kept}
 use Rattle.frame_laws.proofs.Decisions.{fails_kept}
@@ -24,10 +24,10 @@ use Rattle.ignite_types.specs.declared.message.Message.TheVariants as msg
 use Rattle.ignite_types.specs.declared.journal.Rec.TheVariants as note
 use Rattle.node_state.specs.declared.near.TxState.TheVariants as state
 use Rattle.frame_laws.proofs.Plain.{to_plain}
-use Rattle.frame_laws.specs.Kits.{ClosedUnderSteps}
+use Rattle.frame_laws.specs.Kits.{ClosedUnderWatchedSteps}
 use Rattle.frame_laws.proofs.Kits.{either_kept}
 
-module _ (R : NodeState → NodeState → Type 0) (kit : ClosedUnderSteps R) where
+module _ {watched : Bool} (R : NodeState → NodeState → Type 0) (kit : ClosedUnderWatchedSteps watched R) where
   pub asks_kept : (s : NodeState) (tx : TxId) (round : ℕ) (known : List TxId) (nodes : List NodeId) →
       R s (after_ask s tx round known nodes)
   asks_kept s tx round known nodes = kit.sent_all s (outs_to nodes (msg.Edges tx round known))

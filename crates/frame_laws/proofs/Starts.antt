@@ -14,10 +14,10 @@ use Rattle.node_state.specs.Node.{NodeState}
 use Rattle.node_state.specs.declared.session.SessionState.{SessionState}
 use Rattle.ignite_types.specs.declared.journal.Rec.TheVariants as note
 use Rattle.node_state.specs.declared.near.TxState.TheVariants as state
-use Rattle.frame_laws.specs.Kits.{ClosedUnderSteps}
+use Rattle.frame_laws.specs.Kits.{ClosedUnderWatchedSteps}
 use Rattle.frame_laws.proofs.Kits.{either_kept}
 
-module _ (R : NodeState → NodeState → Type 0) (kit : ClosedUnderSteps R) where
+module _ {watched : Bool} (R : NodeState → NodeState → Type 0) (kit : ClosedUnderWatchedSteps watched R) where
   pub fixes_version_kept : (s : NodeState) (tx : TxId) (top : TopVer) → R s (with_version s tx top)
   fixes_version_kept s tx top = on_entry_kept R kit s tx (λ (e : TxEntry). record e { top = Some top; state = state.Active })
       (entry_of s tx)

@@ -12,12 +12,12 @@ use Rattle.node_state.specs.Node.{NodeState}
 use Rattle.node_state.specs.declared.primary.BackupShare.{BackupShare}
 use Rattle.node_state.specs.declared.primary.OwnShare.{OwnShare}
 use Rattle.node_state.specs.declared.session.SessionState.{SessionState}
-use Rattle.std.proofs.Common.{◌≡◌, None, Option, Some, true, refl}
+use Rattle.std.proofs.Common.{Bool, ◌≡◌, None, Option, Some, true, refl}
 use Rattle.std.specs.Prelude.{ℕ}
-use Rattle.frame_laws.specs.Kits.{ClosedUnderSteps, is_plain_message}
+use Rattle.frame_laws.specs.Kits.{ClosedUnderWatchedSteps, is_plain_message}
 use Rattle.frame_laws.proofs.Kits.{sent_kept}
 
-module _ (R : NodeState → NodeState → Type 0) (kit : ClosedUnderSteps R) where
+module _ {watched : Bool} (R : NodeState → NodeState → Type 0) (kit : ClosedUnderWatchedSteps watched R) where
   pub with_session_state_kept : (s : NodeState) (session : ℕ) (session_state : SessionState) →
       R s (with_session_state s session session_state)
   with_session_state_kept s session session_state = kit.aside s (with_session_state s session session_state) refl

@@ -1,5 +1,5 @@
 -- Writes to a node's copies extend the node.
-use Rattle.std.proofs.Common.{List, [], ◌∷◌, refl}
+use Rattle.std.proofs.Common.{Bool, List, [], ◌∷◌, refl}
 use Rattle.act_rows.specs.Steps.{with_note}
 use Rattle.ignite_types.specs.declared.message.Stored.{Stored}
 use Rattle.ignite_types.specs.declared.names.NodeId.{NodeId}
@@ -8,9 +8,9 @@ use Rattle.ignite_types.specs.declared.names.TxId.{TxId}
 use Rattle.node_state.specs.Node.{NodeState}
 use Rattle.ignite_types.specs.declared.journal.Rec.TheVariants as note
 use Rattle.act_rows.specs.Stores.{after_apply_each, with_stored}
-use Rattle.frame_laws.specs.Kits.{ClosedUnderSteps}
+use Rattle.frame_laws.specs.Kits.{ClosedUnderWatchedSteps}
 
-module _ (R : NodeState → NodeState → Type 0) (kit : ClosedUnderSteps R) where
+module _ {watched : Bool} (R : NodeState → NodeState → Type 0) (kit : ClosedUnderWatchedSteps watched R) where
   pub stored_kept : (s : NodeState) (write : Stored) → R s (with_stored s write)
   stored_kept s write = kit.aside s (with_stored s write) refl
 

@@ -1,14 +1,18 @@
 -- What every row keeps: a relation between a node before and after it that holds of each small step and of one step after
 -- another. A small step of a plain row is a change that leaves the plain frame of a node alone; or a record that is noted, of
 -- no lock and none of the exchange; or messages outside the exchange, put into the outbox; or one of the three changes of lock
--- queues, with its record. The rows of the exchange change the rest of the frame too.
+-- queues, with its record. The rows of the exchange have small steps of their own, each with its name.
+--
+-- The claims of movers are in the frame where a kit watches them: then its walks hold of all rows but that of Complete.
 use Rattle.std.specs.List.{list_all}
-use Rattle.std.specs.Prelude.{Bool, None, Option, false, true, ℕ, ◌≡◌}
+use Rattle.std.specs.Prelude.{Bool, None, Option, Some, [], false, true, ℕ, ◌++◌, ◌∷◌, ◌≡◌}
 use Rattle.frame_laws.specs.Extending.{is_own}
+use Rattle.act_rows.specs.Exchange as exchange
 use Rattle.act_rows.specs.Locks as locks
 use Rattle.act_rows.specs.Steps as steps
 use Rattle.part_model.specs.Queues.{Queues, other_owner}
 use Rattle.ignite_types.specs.declared.journal.Rec.{Rec}
+use Rattle.ignite_types.specs.declared.journal.TopoEvent.{TopoEvent}
 use Rattle.ignite_types.specs.declared.list.List.{List}
 use Rattle.ignite_types.specs.declared.message.Message.{Message}
 use Rattle.ignite_types.specs.declared.message.Out.{Out}
@@ -21,6 +25,7 @@ use Rattle.ignite_types.specs.declared.scenario.Cache.{Cache}
 use Rattle.ignite_types.specs.declared.scenario.Member.{Member}
 use Rattle.ignite_types.specs.declared.text.Key.{Key}
 use Rattle.node_state.specs.Node.{NodeState}
+use Rattle.node_state.specs.declared.topology.Claim.{Claim}
 use Rattle.node_state.specs.declared.topology.Exchange.{Exchange}
 use Rattle.ignite_types.specs.declared.message.Message.TheVariants as msg
 use Rattle.ignite_types.specs.declared.journal.Rec.TheVariants as note
@@ -68,9 +73,14 @@ pub record PlainFrame : Type 0 where
   pub single_sent : Option TopVer
   pub singles : List Single
   pub exchange : Option Exchange
+  pub claims : List Claim
 
-abbrev pub plain_frame : NodeState → PlainFrame
-plain_frame s = record {
+abbrev pub claims_watched : Bool → List Claim → List Claim
+claims_watched true claims = claims
+claims_watched false claims = []
+
+abbrev pub plain_frame : Bool → NodeState → PlainFrame
+plain_frame watched s = record {
   me = s.me;
   acts = s.acts;
   now = s.now;
@@ -88,13 +98,14 @@ plain_frame s = record {
   single_sent = s.single_sent;
   singles = s.singles;
   exchange = s.exchange;
+  claims = claims_watched watched s.claims;
 }
 
--- what plain rows keep
-pub record ClosedUnderSteps (R : NodeState → NodeState → Type 0) : Type 0 where
+-- what plain rows keep, by whether the kit watches claims
+pub record ClosedUnderWatchedSteps (watched : Bool) (R : NodeState → NodeState → Type 0) : Type 0 where
   pub nothing : (s : NodeState) → R s s
   pub andthen : (a b c : NodeState) → R a b → R b c → R a c
-  pub aside : (before after : NodeState) → plain_frame after ≡ plain_frame before → R before after
+  pub aside : (before after : NodeState) → plain_frame watched after ≡ plain_frame watched before → R before after
   pub noting : (s : NodeState) (r : Rec) → is_own r ≡ true → is_lock r ≡ false → is_exchange r ≡ false →
       R s (steps.with_note s r)
   pub sent_all : (s : NodeState) (outs : List Out) → list_all is_plain_out outs ≡ true → R s (steps.with_outs s outs)
@@ -105,9 +116,27 @@ pub record ClosedUnderSteps (R : NodeState → NodeState → Type 0) : Type 0 wh
       R s (steps.with_note (locks.with_queued s tx key) (note.Grant tx top key))
 
 -- what all rows keep, those of the exchange too
-pub record ClosedUnderAllSteps (R : NodeState → NodeState → Type 0) : Type 0 where
-  pub plain : ClosedUnderSteps R
-  pub changes : (before after : NodeState) → after.me ≡ before.me → after.acts ≡ before.acts → after.now ≡ before.now →
-      after.noted ≡ before.noted → after.outbox ≡ before.outbox → after.queues ≡ before.queues → R before after
-  pub notes : (s : NodeState) (r : Rec) → is_own r ≡ true → is_lock r ≡ false → R s (steps.with_note s r)
+pub record ClosedUnderAllWatchedSteps (watched : Bool) (R : NodeState → NodeState → Type 0) : Type 0 where
+  pub plain : ClosedUnderWatchedSteps watched R
+  -- a topology event is learned
+  pub learns : (s : NodeState) (event : TopoEvent) → R s (exchange.after_learn s event)
+  -- a Single is kept; those of old versions, or of a lost node, are dropped
+  pub keeps_single : (s : NodeState) (single : Single) → R s (record s { singles = s.singles ++ single ∷ [] })
+  pub drops_singles : (s : NodeState) (top : TopVer) → R s (exchange.without_singles s top)
+  pub drops_lost : (s : NodeState) (who : NodeId) → R s (exchange.without_single s who)
+  -- a map is installed, and noted
+  pub installs : (s : NodeState) (m : PartMap) → R s (exchange.after_install s m)
+  -- an exchange is begun, counted or over
+  pub exchanges : (s : NodeState) (x : Option Exchange) → R s (record s { exchange = x })
+  -- the version is open here, and noted
+  pub opens : (s : NodeState) (top : TopVer) → R s (steps.with_note (record s { opened = Some top }) (note.Opened top))
+  -- the Single of the last version seen is marked as sent
+  pub marks_single : (s : NodeState) → R s (record s { single_sent = Some s.seen })
   pub sends : (s : NodeState) (outs : List Out) → R s (steps.with_outs s outs)
+
+-- the same where claims are not watched
+abbrev pub ClosedUnderSteps : (NodeState → NodeState → Type 0) → Type 0
+ClosedUnderSteps R = ClosedUnderWatchedSteps false R
+
+abbrev pub ClosedUnderAllSteps : (NodeState → NodeState → Type 0) → Type 0
+ClosedUnderAllSteps R = ClosedUnderAllWatchedSteps false R

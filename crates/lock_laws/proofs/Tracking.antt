@@ -1,13 +1,10 @@
 -- What each small step notes of the lock queues goes on telling who owns each key.
-use Rattle.std.proofs.Common.{◌≡◌, ◌≢◌, ◌++◌, ◌&&◌, ◌||◌, List, [], ◌∷◌, Bool, true, false, if◌then◌else◌, not, ℕ, nat_eq, Option, Some, None, slice_get, unwrap_or, refl, ap, sym, subst, ◌∙◌, arith}
-use Rattle.std.specs.Cmp.{IsEquivalence, and_equiv, first_so, nat_eq_equiv, on_equiv, second_so}
-use Rattle.std.specs.Cmp.Lexicographic.{nat_list_eq_equiv, pointwise}
+use Rattle.std.proofs.Common.{◌≡◌, ◌≢◌, ◌++◌, ◌&&◌, ◌||◌, List, [], ◌∷◌, Bool, true, false, if◌then◌else◌, not, Option, Some, None, slice_get, unwrap_or, refl, ap, sym, subst, ◌∙◌}
 use Rattle.std.specs.declared.cmp.Ordering.TheVariants.{Less, Equal, Greater}
-use Rattle.std.proofs.lemmas.Bool.{eqb-true}
-use Rattle.std.proofs.lemmas.Bool.Decides.{nat_tests}
 use Rattle.std.proofs.lemmas.Cmp.{tied_itself}
 use Rattle.frame_laws.proofs.Extending.{append_none, append_twice}
 use Rattle.frame_laws.specs.Kits.{ClosedUnderAllSteps, ClosedUnderSteps, PlainFrame, is_lock}
+use Rattle.act_rows.specs.Exchange.{after_install, after_learn, without_single, without_singles}
 use Rattle.act_rows.specs.Locks.{after_grant, after_leave, after_lock_behind, after_pass_on, is_owner, owner_at, with_queued}
 use Rattle.act_rows.specs.Steps.{installed_top, with_note, with_outs}
 use Rattle.part_model.specs.Queues.{Queues, other_owner, owner_in, queue_in, queue_without, queues_with, queues_without, with_queue_in}
@@ -125,14 +122,20 @@ lockless_fits : (before : List Rec) (r : Rec) → is_lock r ≡ false → GrantF
 lockless_fits before (note.Grant u top k) lockless = absurd (cc)
 lockless_fits before r lockless = tt
 
-noting_tracks : (s : NodeState) (r : Rec) → is_lock r ≡ false → KeepsOwnersMatch s (with_note s r)
-noting_tracks s r lockless = record {
+-- one record of no lock, and the same queues
+noted_tracks : (before after : NodeState) (r : Rec) → is_lock r ≡ false → after.noted ≡ before.noted ++ r ∷ [] →
+    after.queues ≡ before.queues → KeepsOwnersMatch before after
+noted_tracks before after r lockless noted queues = record {
   more = r ∷ [];
-  noted_is = refl;
-  tells = λ recs t. tells_on recs (r ∷ []) s.queues s.queues t.ascending
-      (λ tx key. lockless_holds tx key (is_owner tx (owner_in s.queues key)) r lockless) t;
+  noted_is = noted;
+  tells = λ recs t. subst (λ (qs : Queues). OwnersMatch (recs ++ r ∷ []) qs) (sym queues)
+      (tells_on recs (r ∷ []) before.queues before.queues t.ascending
+      (λ tx key. lockless_holds tx key (is_owner tx (owner_in before.queues key)) r lockless) t);
   fits = λ recs t. (lockless_fits recs r lockless, tt);
 }
+
+noting_tracks : (s : NodeState) (r : Rec) → is_lock r ≡ false → KeepsOwnersMatch s (with_note s r)
+noting_tracks s r lockless = noted_tracks s (with_note s r) r lockless refl refl
 
 -- Queues.
 
@@ -346,8 +349,15 @@ tracking_plain = record {
 pub tracking : ClosedUnderAllSteps KeepsOwnersMatch
 tracking = record {
   plain = tracking_plain;
-  changes = λ before after me acts now noted outbox queues. still before after noted queues;
-  notes = λ s r own lockless. noting_tracks s r lockless;
+  learns = λ s event. still s (after_learn s event) refl refl;
+  keeps_single = λ s single. still s (record s { singles = s.singles ++ single ∷ [] }) refl refl;
+  drops_singles = λ s top. still s (without_singles s top) refl refl;
+  drops_lost = λ s who. still s (without_single s who) refl refl;
+  installs = λ s m. noted_tracks s (after_install s m) (note.Install m) refl refl refl;
+  exchanges = λ s x. still s (record s { exchange = x }) refl refl;
+  opens = λ s top. noted_tracks s (with_note (record s { opened = Some top }) (note.Opened top)) (note.Opened top) refl refl
+      refl;
+  marks_single = λ s. still s (record s { single_sent = Some s.seen }) refl refl;
   sends = λ s outs. still s (with_outs s outs) refl refl;
 }
 

@@ -1,7 +1,6 @@
 -- A server joins, and its copy is filled from the old owner's. B's transaction holds the lock of one key while the old
--- entries are
--- supplied, and removes the other key after that; its commit goes to the new copy too, and the switch to it waits for the
--- commit.
+-- entries are supplied, and removes the other key after that; its commit goes to the new copy too, and the switch to it waits
+-- for the commit.
 -- Then the new server is the primary: C finds B's value, and nothing at the removed key.
 use Rattle.std.proofs.Common.{[], Ok, refl, true, ◌∷◌, ◌≡◌}
 use Rattle.ignite_types.specs.declared.scenario.Scenario.{Scenario}

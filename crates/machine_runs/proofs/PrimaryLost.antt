@@ -1,6 +1,5 @@
 -- A, on a client, has a lock at the primary when the primary is lost. Its commit fails, for the lock is gone; at the next
--- version
--- the backup is the primary, and A's next transaction finds nothing.
+-- version the backup is the primary, and A's next transaction finds nothing.
 use Rattle.std.proofs.Common.{[], Ok, false, refl, true, ◌∷◌, ◌≡◌}
 use Rattle.ignite_types.specs.declared.scenario.Scenario.{Scenario}
 use Rattle.machine_runs.specs.Driver.{Shown, laws_hold, shown}

@@ -1,7 +1,7 @@
 -- A server joins and demands the old owner's entries, but the demand is on a held link. Meanwhile B writes one key and
--- removes the
--- other, and its prepare comes to the new copy first. When the link is released the old owner still supplies what it had before
--- B's commit; the new copy takes both, and has B's value and no removed key when it is the primary, as C finds on it.
+-- removes the other, and its prepare comes to the new copy first. When the link is released the old owner still supplies what
+-- it had before B's commit; the new copy takes both, and has B's value and no removed key when it is the primary, as C finds
+-- on it.
 use Rattle.std.proofs.Common.{[], Ok, refl, true, ◌∷◌, ◌≡◌}
 use Rattle.std.specs.Prelude.{List, ℕ}
 use Rattle.ignite_types.specs.declared.scenario.Scenario.{Scenario}

@@ -1,7 +1,6 @@
 -- A, on a client, writes keys of two primaries and commits. The first primary is prepared; the prepare for the second one is
--- on a
--- held link when the client is lost. The servers find that a share is missing and roll A back, and B, which has waited for A's
--- lock, finds nothing.
+-- on a held link when the client is lost. The servers find that a share is missing and roll A back, and B, which has waited
+-- for A's lock, finds nothing.
 use Rattle.std.proofs.Common.{[], Ok, false, refl, true, ◌∷◌, ◌≡◌}
 use Rattle.ignite_types.specs.declared.scenario.Scenario.{Scenario}
 use Rattle.machine_runs.specs.Driver.{Shown, laws_hold, shown}

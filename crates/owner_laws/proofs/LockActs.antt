@@ -1,6 +1,5 @@
 -- Each act of a node keeps what is true of locks, and what the records tell of the node's transactions, as long as no message
--- of
--- topology is on its way.
+-- of topology is on its way.
 use Rattle.act_rows.specs.Locks.{after_lock_behind, owner_at, with_queued}
 use Rattle.act_rows.specs.Closing.{after_advance_starter}
 use Rattle.act_rows.specs.Commands.{after_answer, after_call}

@@ -13,6 +13,7 @@ use Rattle.journal_statements.specs.MapLaws.{has_installed, is_install_of, membe
 use Rattle.journal_statements.specs.Noted.{Noted, each_from, is_lost, noted, recs_of}
 use Rattle.journal_statements.specs.Topologies.{Topology, topologies, topology_of}
 use Rattle.journal_statements.specs.Versions.{opened_before}
+use Rattle.claim_laws.proofs.ClaimLaws.{switches_claimed_hold}
 use Rattle.commit_laws.proofs.CommitLaws.{applies_hold}
 use Rattle.coordinator_laws.proofs.CoordinatorLaws.{one_coordinator_holds}
 use Rattle.link_laws.proofs.Journals.{first_rest}
@@ -22,6 +23,7 @@ use Rattle.map_laws.proofs.MapLaws.{highest_bases_hold, rising_maps_hold}
 use Rattle.owner_laws.proofs.OwnerLaws.{are_tokens, owns_keys}
 use Rattle.part_model.specs.Orders.{is_node}
 use Rattle.placement_laws.proofs.PlacementLaws.{members_hold}
+use Rattle.refusal_laws.proofs.RefusalLaws.{refusals_fit_holds}
 use Rattle.run_laws.proofs.Runs.{clocks_agree}
 use Rattle.run_promises.specs.RunPromises.{RunPromises}
 use Rattle.scenes.specs.EachRun.{IsRunOf, is_short_run}
@@ -97,6 +99,8 @@ promises_hold events short j run = record {
   one_coordinator = one_coordinator_holds events short j run;
   owners_left = owners_left_holds events short j run;
   held_by_members = members_hold events short j run;
+  switches_claimed = switches_claimed_hold events short j run;
+  refusals_fit = refusals_fit_holds events short j run;
   opens_once = opens_once_holds events short j run;
   decided_once = decided_once_holds events short j run;
   recovered_after_loss = recovered_after_loss_holds events short j run;

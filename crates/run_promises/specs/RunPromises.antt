@@ -1,12 +1,12 @@
 -- What is proved of the journal of every legal run of a good scenario, whatever the order of its events: one field a promise.
--- The
--- statements of journal_statements have their names there; docs/PROMISES.md says them in plain words.
+-- The statements of journal_statements have their names there; docs/PROMISES.md says them in plain words.
 use Rattle.std.specs.Prelude.{true, ◌≡◌}
 use Rattle.commit_laws.specs.CommitLaws.{applies_are_committed}
 use Rattle.ignite_types.specs.declared.journal.Journal.{Journal}
 use Rattle.journal_statements.specs.LinkRecords.{links}
-use Rattle.journal_statements.specs.MapLaws.{one_coordinator, opened_when_installed, owners_left}
+use Rattle.journal_statements.specs.MapLaws.{one_coordinator, opened_when_installed, owners_left, switches_claimed}
 use Rattle.journal_statements.specs.Maps.{maps}
+use Rattle.journal_statements.specs.Refusals.{refusals_fit}
 use Rattle.journal_statements.specs.Told.{finds_reach_starters}
 use Rattle.journal_statements.specs.Versions.{commits_stand}
 use Rattle.journal_statements.specs.Waits.{one_holder}
@@ -28,8 +28,7 @@ pub record RunPromises (j : Journal) : Type 0 where
   pub one_holder : one_holder j ≡ true
   -- Topology versions and maps.
   -- a map is the one of its version, or the next map of one Single from each member, as its oldest member was brought them;
-  -- there, and
-  -- in the map that the run begins with, a partition has an owner exactly where its cache is one of the version
+  -- there, and in the map that the run begins with, a partition has an owner exactly where its cache is one of the version
   pub maps : maps j ≡ true
   -- all maps of one version that nodes install are one map
   pub one_map : one_map j ≡ true
@@ -40,13 +39,18 @@ pub record RunPromises (j : Journal) : Type 0 where
   -- where a version is opened each of its members is lost or has installed its map
   pub opens_after_all : opens_after_all j ≡ true
   pub opened_when_installed : opened_when_installed j ≡ true
-  -- the map of a version is handed out, and its opening told, by the version's oldest member alone; the map is the installed
-  -- one
+  -- the map of a version is handed out, and its opening told, by the version's oldest member alone; the map is the
+  -- installed one
   pub one_coordinator : one_coordinator j ≡ true
   -- in the highest map that is installed at a node which is not lost each partition that has owners has one that is not lost
   pub owners_left : owners_left j ≡ true
   -- all owners and movers of a map are members of its version
   pub held_by_members : held_by_members j ≡ true
+  -- owners switch late only where each mover of the highest map installed has told that its copies are full
+  pub switches_claimed : switches_claimed j ≡ true
+  -- a loss is refused exactly where its node is not in, or where the highest map that a survivor has installed would keep a
+  -- partition without an owner; no other step of the plan is refused
+  pub refusals_fit : refusals_fit j ≡ true
   -- no node opens a version twice
   pub opens_once : OpensOnce j
   -- Transactions.
@@ -69,15 +73,12 @@ pub record RunPromises (j : Journal) : Type 0 where
   -- each write that a node applies stands behind a commit decision of its transaction
   pub applies_are_committed : applies_are_committed j ≡ true
   -- where topology stands still: at the end an undecided pessimistic transaction owns each key that it has accessed, or waits
-  -- for it;
-  -- its Lock of a key, its place in the key's queue and its LockOk are one token
+  -- for it; its Lock of a key, its place in the key's queue and its LockOk are one token
   pub keys_are_owned_in_still_topology : topology_stands j.scenario ≡ true → OwnsItsKeys (last_scene j)
   pub locks_are_tokens_in_still_topology : topology_stands j.scenario ≡ true → LocksAreTokens (last_scene j)
   -- there too: at the end each primary that an undecided transaction's starter has counted has its own share Prepared, and so
-  -- has
-  -- each other holder that the starter names; what ends a transaction carries its starter's decision, and a commit meets a
-  -- Prepared
-  -- share
+  -- has each other holder that the starter names; what ends a transaction carries its starter's decision, and a commit meets a
+  -- Prepared share
   pub votes_stand_in_still_topology : topology_stands j.scenario ≡ true → VotesStand (last_scene j)
   pub ends_are_decided_in_still_topology : topology_stands j.scenario ≡ true → EndsStand (last_scene j)
   -- The clock.

@@ -7,7 +7,6 @@ use Rattle.std.proofs.lemmas.Bool.Decides.{nat_tests}
 use Rattle.ignite_types.proofs.NameLaws.{same_node_itself}
 use Rattle.ignite_types.specs.Names.{same_node}
 use Rattle.ignite_types.specs.Placement.{capped}
-use Rattle.ignite_types.specs.declared.journal.NoLoss.{NoLoss}
 use Rattle.ignite_types.specs.declared.names.NodeId.{NodeId}
 use Rattle.ignite_types.specs.declared.names.TopVer.{TopVer}
 use Rattle.ignite_types.specs.declared.placement.PartMap.{PartMap}
@@ -18,13 +17,12 @@ use Rattle.journal_statements.specs.Noted.{Noted}
 use Rattle.link_laws.specs.Carrying.{NodesApart}
 use Rattle.link_laws.proofs.Journals.{first_rest}
 use Rattle.node_state.specs.Node.{NodeState}
-use Rattle.node_state.specs.declared.life.Life.{Life}
 use Rattle.part_model.specs.Directory.{first_bare, leaves_partition, refusal_of_loss, survives}
 use Rattle.part_model.specs.NextMap.{is_higher, is_member, newer_map}
 use Rattle.scenes.specs.Events.{MayBeLost}
-use Rattle.scenes.specs.Scenes.{Scene, absent_state, is_survivor, part_or_absent, scene_of, state_at_rest}
+use Rattle.scenes.specs.Scenes.{Scene, is_survivor, part_or_absent, scene_of, state_at_rest}
 use Rattle.scenes.proofs.Parts.{part_me}
-use Rattle.scenes.proofs.Sounds.{alive_is, at_part, turned}
+use Rattle.scenes.proofs.Sounds.{turned}
 use Rattle.scenes.proofs.Worlds.{life_here, state_here}
 use Rattle.tx_model.specs.World.{Part, World, best_map_from, best_map_without, is_alive, outlives, part_at, part_on, place_of}
 use Rattle.ignite_types.specs.declared.journal.NoLoss.TheVariants as refusal

@@ -1,5 +1,5 @@
 -- A node that is lost does nothing any more: it stays lost, and its state stays as it was.
-use Rattle.std.proofs.Common.{◌≡◌, ◌≢◌, ◌≤◌, ◌<◌, ◌^◌, ◌++◌, ◌&&◌, List, Bool, true, false, if◌then◌else◌, length, refl, ap, sym, subst, ◌∙◌, arith}
+use Rattle.std.proofs.Common.{◌≡◌, ◌≢◌, ◌≤◌, ◌<◌, ◌^◌, ◌++◌, List, Bool, true, false, if◌then◌else◌, length, refl, ap, sym, subst, ◌∙◌, arith}
 use Rattle.std.specs.Prelude.{IsTrue, drop}
 use Rattle.std.proofs.lemmas.List.{length-append}
 use Rattle.act_rows.specs.Acts.{after_message, after_see}
@@ -7,19 +7,17 @@ use Rattle.act_rows.specs.Closing.{after_closing_rules}
 use Rattle.act_rows.specs.Commands.{after_answer, after_call}
 use Rattle.act_rows.specs.Searches.{after_expire}
 use Rattle.ignite_types.proofs.NameLaws.{same_node_true}
-use Rattle.ignite_types.specs.Good.{good, good_caches, good_format, good_nodes, good_plan, good_sessions}
+use Rattle.ignite_types.specs.Good.{good}
 use Rattle.ignite_types.specs.Names.{same_node}
 use Rattle.ignite_types.specs.declared.journal.Group.{Group}
 use Rattle.ignite_types.specs.declared.names.NodeId.{NodeId}
 use Rattle.ignite_types.specs.declared.scenario.Scenario.{Scenario}
 use Rattle.journal_statements.specs.Noted.{Noted, noted}
-use Rattle.link_laws.proofs.Journals.{first_rest}
-use Rattle.link_laws.proofs.Runs.{plan_short}
 use Rattle.node_state.specs.declared.life.Life.{Life}
 use Rattle.node_state.specs.Node.{NodeState}
 use Rattle.scenes.specs.Events.{EachEventKeeps}
 use Rattle.scenes.specs.Scenes.{Scene, either_state, lives_with, scene_of, state_after_loss, state_at_moment, state_at_rest, states_with}
-use Rattle.scenes.proofs.Runs.{Holds, after_parts, groups_hold, noted_parts, run_holds, steps_parts}
+use Rattle.scenes.proofs.Runs.{Holds, after_parts, groups_hold, noted_parts, plan_of_good, run_holds, steps_parts}
 use Rattle.scenes.proofs.Sounds.{Base, base_kept, joiner}
 use Rattle.scenes.proofs.Openings.{opening_base}
 use Rattle.tx_model.specs.Opening.{opening}
@@ -138,10 +136,7 @@ module _ (s : Scenario) (gs more : List Group) (is_good : IsTrue (good s)) (few 
   apart = steps_parts (opening s) gs more steps
 
   short : length s.plan ≤ 64
-  short =
-      let all = first_rest (good_format s.format s.caches && good_caches s.caches && good_nodes s && good_plan s)
-      (good_sessions s) is_good in
-      plan_short s (first_rest (good_format s.format s.caches && good_caches s.caches && good_nodes s) (good_plan s) all.0).1
+  short = plan_of_good s is_good
 
   pub frozen_after : (n : NodeId) → (scene_of s (noted s gs) middle).life n ≡ life.Gone
       → IsFrozen n ((scene_of s (noted s gs) middle).state n)

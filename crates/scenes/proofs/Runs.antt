@@ -1,5 +1,5 @@
 -- The theorem over runs: what holds at the opening and is kept by each event holds of the world after any possible events.
-use Rattle.std.proofs.Common.{◌≡◌, refl, ◌≤◌, ◌<◌, ◌+◌, ◌^◌, ◌++◌, ◌&&◌, ◌||◌, List, [], ◌∷◌, not, length, ℕ, suc, sym, subst, arith}
+use Rattle.std.proofs.Common.{◌≡◌, refl, ◌≤◌, ◌<◌, ◌+◌, ◌^◌, ◌++◌, ◌&&◌, ◌||◌, List, [], ◌∷◌, true, not, length, ℕ, suc, sym, subst, arith}
 use Rattle.std.specs.List.{flat_map}
 use Rattle.std.specs.Prelude.{IsTrue}
 use Rattle.std.proofs.lemmas.Grind.{flat_map-append}
@@ -56,6 +56,18 @@ pub record Holds (Inv : Scene → Type 0) (s : Scenario) (recs : List Noted) (w 
   pub base : Base (scene_of s recs w)
   pub full : Full w
   pub inv : Inv (scene_of s recs w)
+
+-- the rules of a good scenario that its nodes and its plan keep
+rules_of_good : (s : Scenario) → IsTrue (good s) → (good_nodes s ≡ true) × (good_plan s ≡ true)
+rules_of_good s is_good =
+    let all = first_rest (good_format s.format s.caches && good_caches s.caches && good_nodes s && good_plan s)
+    (good_sessions s)
+    is_good in
+    let four = first_rest (good_format s.format s.caches && good_caches s.caches && good_nodes s) (good_plan s) all.0 in
+    ((first_rest (good_format s.format s.caches && good_caches s.caches) (good_nodes s) four.0).1, four.1)
+
+pub plan_of_good : (s : Scenario) → IsTrue (good s) → length s.plan ≤ 64
+plan_of_good s is_good = plan_short s (rules_of_good s is_good).1
 
 module _ (Inv : Scene → Type 0) (kept : EachEventKeeps Inv) where
   pub group_holds : (s : Scenario) (recs : List Noted) (w : World) (g : Group) → length s.plan ≤ 64 →
@@ -116,12 +128,8 @@ module _ (Inv : Scene → Type 0) (kept : EachEventKeeps Inv) where
       → Holds Inv s (noted s gs) (world_after (opening s) gs)
       × (length (world_after (opening s) gs).directory.events ≤ length gs)
   groups_hold s gs is_good few first steps =
-      let all = first_rest (good_format s.format s.caches && good_caches s.caches && good_nodes s && good_plan s)
-      (good_sessions s) is_good in
-      let four = first_rest (good_format s.format s.caches && good_caches s.caches && good_nodes s) (good_plan s) all.0 in
-      let nodes = (first_rest (good_format s.format s.caches && good_caches s.caches) (good_nodes s) four.0).1 in
-      let apart = nodes_apart s nodes in
-      let run = run_holds s [] (opening s) gs (plan_short s four.1) (omega (arith, few)) (record {
+      let apart = nodes_apart s (rules_of_good s is_good).0 in
+      let run = run_holds s [] (opening s) gs (plan_of_good s is_good) (omega (arith, few)) (record {
         carries = opening_carries s apart;
         base = subst Base (sym (opening_is s apart)) (opening_base s);
         full = opening_full s apart;

@@ -132,7 +132,7 @@ installed_next s before n = ap (λ (ms : List PartMap). opening_map_of s ∷ ms)
     (flat_map-append (λ (x : Noted). map_in x.rec) before (n ∷ [])
     ∙ ap (λ (ms : List PartMap). flat_map (λ (x : Noted). map_in x.rec) before ++ ms) (append_none (map_in n.rec)))
 
-known_next : (sc : TopologyScene) (before : List Noted) (n : Noted) → RecordFits sc before n.rec →
+pub known_next : (sc : TopologyScene) (before : List Noted) (n : Noted) → RecordFits sc before n.rec →
     HoldsOfEach (IsKnown sc.scenario before) (maps_installed sc.scenario before) →
     HoldsOfEach (IsKnown sc.scenario (before ++ n ∷ [])) (maps_installed sc.scenario (before ++ n ∷ []))
 known_next sc before n fits all =
@@ -161,7 +161,8 @@ known_next sc before n fits all =
     by _ is one = tt
 
 -- those of a node are among all
-maps_among : (s : Scenario) (P : PartMap → Type 0) (recs : List Noted) (k : NodeId) → HoldsOfEach P (maps_installed s recs) →
+pub maps_among : (s : Scenario) (P : PartMap → Type 0) (recs : List Noted) (k : NodeId) →
+    HoldsOfEach P (maps_installed s recs) →
     HoldsOfEach P (maps_at s recs k)
 maps_among s P recs k all = each_both P (option_to_list (map_if (is_member s.nodes k) (opening_map_of s)))
     (flat_map map_in (recs_of k recs)) (first (is_member s.nodes k)) (rest recs all.1)
@@ -188,7 +189,7 @@ maps_among s P recs k all = each_both P (option_to_list (map_if (is_member s.nod
 
 -- The highest map.
 
-abbrev HoldsOfSome : (PartMap → Type 0) → Option PartMap → Type 0
+abbrev pub HoldsOfSome : (PartMap → Type 0) → Option PartMap → Type 0
 HoldsOfSome P None = Unit {0}
 HoldsOfSome P (Some m) = P m
 
@@ -201,7 +202,7 @@ newer_holds P (Some best) m first one =
       | false ↦ first
     ]
 
-highest_holds : (P : PartMap → Type 0) (best : Option PartMap) (ms : List PartMap) → HoldsOfSome P best → HoldsOfEach P ms →
+pub highest_holds : (P : PartMap → Type 0) (best : Option PartMap) (ms : List PartMap) → HoldsOfSome P best → HoldsOfEach P ms →
     HoldsOfSome P (highest best ms)
 highest_holds P best [] first all = first
 highest_holds P best (m ∷ ms) first all = highest_holds P (newer_map best (Some m)) ms (newer_holds P best m first all.0) all.1
@@ -229,7 +230,8 @@ highest_keeps : (best : Option PartMap) (ms : List PartMap) (top : TopVer) → H
 highest_keeps best [] top has = has
 highest_keeps best (m ∷ ms) top has = highest_keeps (newer_map best (Some m)) ms top (newer_keeps best m top has)
 
-highest_takes : (best : Option PartMap) (ms : List PartMap) (top : TopVer) → list_any (λ (m : PartMap). same_top m.top top) ms
+pub highest_takes : (best : Option PartMap) (ms : List PartMap) (top : TopVer) →
+    list_any (λ (m : PartMap). same_top m.top top) ms
     ≡ true → HasAtLeast top (highest best ms)
 highest_takes best [] top some = absurd (cc (some))
 highest_takes best (m ∷ ms) top some = by (λ rest. highest_takes (newer_map best (Some m)) ms top rest)
@@ -251,7 +253,7 @@ any_get p [] k x there is = absurd (cc (there))
 any_get p (y ∷ ys) zero x there is = let same : y ≡ x = cc (there) in or_first (p y) (list_any p ys) (ap p same ∙ is)
 any_get p (y ∷ ys) (suc k) x there is = or_second (p y) (list_any p ys) (any_get p ys k x there is)
 
-has_id : (s : Scenario) (x : NodeId) → is_member (declared_nodes s) x ≡ true → list_any (same_node x) (ids_of s) ≡ true
+pub has_id : (s : Scenario) (x : NodeId) → is_member (declared_nodes s) x ≡ true → list_any (same_node x) (ids_of s) ≡ true
 has_id s x declared =
     let at = set_both [] (declared_nodes s) [] x declared in
     any_get (same_node x) (ids_of s) at.0 x (ap (λ ms. slice_get (node_set [] ms) at.0) (sym (append_none (declared_nodes s)))
@@ -293,7 +295,7 @@ live_each recs (y ∷ ys) f P all = by (is_lost recs y) refl (live_each recs ys 
     by false live rest = each_both P (f y) (flat_map f (filter (λ (id : NodeId). not (is_lost recs id)) ys)) (all y live) rest
 
 -- what is known of the highest map is the statement
-both_at : (s : Scenario) (recs : List Noted) (top : TopVer) (k : NodeId) → HoldsOfEach (λ (m : PartMap). IsUpTo m.top top)
+pub both_at : (s : Scenario) (recs : List Noted) (top : TopVer) (k : NodeId) → HoldsOfEach (λ (m : PartMap). IsUpTo m.top top)
     (maps_at s recs k) → HoldsOfEach (IsKnown s recs) (maps_at s recs k) →
     HoldsOfEach (λ (m : PartMap). IsUpTo m.top top × IsKnown s recs m) (maps_at s recs k)
 both_at s recs top k = by (maps_at s recs k)

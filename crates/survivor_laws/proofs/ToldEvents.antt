@@ -63,7 +63,7 @@ each_right : {A : Type 0} (P : A → Type 0) (xs ys : List A) → HoldsOfEach P 
 each_right P [] ys all = all
 each_right P (x ∷ xs) ys all = each_right P xs ys all.1
 
-each_flat : {A B : Type 0} (P : B → Type 0) (f : A → List B) (xs : List A) → ((x : A) → HoldsOfEach P (f x)) →
+pub each_flat : {A B : Type 0} (P : B → Type 0) (f : A → List B) (xs : List A) → ((x : A) → HoldsOfEach P (f x)) →
     HoldsOfEach P (flat_map f xs)
 each_flat P f [] all = tt
 each_flat P f (x ∷ xs) all = each_both P (f x) (flat_map f xs) (all x) (each_flat P f xs all)
@@ -211,7 +211,7 @@ module _ (s : Scenario) (is_good : IsTrue (good s)) where
       by (step.Start cache) is = (tt, tt)
       by (step.Stop cache) is = (stops_fit [] s.plan steps_good k x cache there is, tt)
 
-  rec_fits : (r : Rec) → HoldsOfEach (EventFits s) (events_in_rec s.plan r)
+  pub rec_fits : (r : Rec) → HoldsOfEach (EventFits s) (events_in_rec s.plan r)
   rec_fits (note.Planned place refused) = by refused
     where
       planned : (o : Option PlanStep) → slice_get s.plan place ≡ o → HoldsOfEach (EventFits s) (event_of_planned o)
@@ -232,7 +232,7 @@ module _ (s : Scenario) (is_good : IsTrue (good s)) where
 
   -- Members.
 
-  first_declared : HoldsOfEach (IsDeclared s) s.nodes
+  pub first_declared : HoldsOfEach (IsDeclared s) s.nodes
   first_declared = by s.nodes (λ x is. is) (each_left (FlagIn (members s)) s.nodes joiners flags)
     where
       by : (ms : List Member) → ((x : NodeId) → is_member ms x ≡ true → is_member s.nodes x ≡ true) →
@@ -249,7 +249,7 @@ module _ (s : Scenario) (is_good : IsTrue (good s)) where
             by ms (λ x is. within x (or_second (same_node x m.node) (is_member ms x) is)) all.1,
           )
 
-  later_declared : (t : Topology) (es : List TopoEvent) → HoldsOfEach (IsDeclared s) t.members →
+  pub later_declared : (t : Topology) (es : List TopoEvent) → HoldsOfEach (IsDeclared s) t.members →
       HoldsOfEach (EventFits s) es → HoldsOfEach (IsDeclared s) (last_topology t es).members
   later_declared t [] now fits = now
   later_declared t (e ∷ es) now fits = later_declared (topology_after t e) es (by e fits.0) fits.1

@@ -1,6 +1,5 @@
 -- What rows leave alone that are none of a starter's: transactions and sessions stay as they were; nothing is noted of calls,
--- answers,
--- starts, decisions and faults; and requests that are sent come from their transaction's starter, answers go to it.
+-- answers, starts, decisions and faults; and requests that are sent come from their transaction's starter, answers go to it.
 use Rattle.std.specs.List.{list_all}
 use Rattle.std.specs.Prelude.{Bool, false, true, ℕ, ◌++◌, ◌≡◌}
 use Rattle.ignite_types.specs.Names.{same_node}

@@ -20,7 +20,6 @@ abbrev pub is_recorded_right : Noted → Bool
 is_recorded_right n = is_right_record n.node n.rec
 
 -- wherever one is sent or taken: a Lock, a Get or a Prepare comes from its transaction's starter; a LockOk, a GetOk, a
--- Prepared or a
--- PrepareFail goes to it
+-- Prepared or a PrepareFail goes to it
 abbrev pub starters_ask : Journal → Bool
 starters_ask j = list_all is_recorded_right (noted j.scenario j.groups)

@@ -1,6 +1,5 @@
 -- Each act of a node keeps what is true of votes, and what the records tell of the node's transactions, as long as no message
--- of
--- topology is on its way.
+-- of topology is on its way.
 use Rattle.std.proofs.Common.{◌≡◌, ◌&&◌, List, [], ◌∷◌, ◌++◌, Bool, true, false, if◌then◌else◌, Option, Some, None, refl, sym, subst, ℕ}
 use Rattle.std.specs.List.{list_all}
 use Rattle.act_rows.specs.Accesses.{after_backup_finished_at_starter, after_finished_at_starter}

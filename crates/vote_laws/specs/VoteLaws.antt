@@ -16,8 +16,7 @@ use Rattle.node_state.specs.declared.near.TxState.TheVariants as state
 
 pub record VotesAreTrue (v : VoteView) : Type 0 where
   -- while a starter awaits the answers to its Prepare, each primary that it has asked is awaited, or has voted: its own share
-  -- is
-  -- Prepared, and so is that of each other holder which the starter names
+  -- is Prepared, and so is that of each other holder which the starter names
   pub counted : (tx : TxId) (e : TxEntry) (primary : NodeId) → v.entry tx.node tx ≡ Some e → e.state ≡ state.Preparing
       → In primary e.asked → In primary e.awaited ⊎ IsReady (v.share primary tx) v.backup tx primary e.shares
   -- while the Prepared of an undecided transaction is on its way, its sender has voted so

@@ -1,6 +1,5 @@
 -- What the invariant of votes sees of a world: tables as functions of the node, on each link what lies in the inbox, followed
--- by
--- what the sender's outbox has for it, and what each node has decided of each transaction.
+-- by what the sender's outbox has for it, and what each node has decided of each transaction.
 use Rattle.std.specs.Prelude.{Bool, ◌++◌, Option}
 use Rattle.act_rows.specs.Steps.{backup_cmp, entry_of, share_of}
 use Rattle.ignite_types.specs.declared.journal.Rec.{Rec}

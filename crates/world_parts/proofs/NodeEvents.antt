@@ -1,6 +1,5 @@
 -- Each event at a node, on the parts that it touches: it is possible by their values where it is possible in the world, and
--- what
--- it makes of them is what the world has there after it, all other parts being as before.
+-- what it makes of them is what the world has there after it, all other parts being as before.
 use Rattle.std.proofs.Common.{◌≡◌, ◌&&◌, List, [], ◌∷◌, Option, Some, None, Bool, true, false, if◌then◌else◌, is_some, not, map, length, ℕ, refl, ap, sym, subst, ◌∙◌}
 use Rattle.std.specs.Option.{option_and_then}
 use Rattle.std.specs.Prelude.{nat_lt, slice_get, slice_set}

@@ -1,0 +1,3 @@
+pub mod ClaimEvents
+pub mod ClaimLaws
+pub mod ClaimRows

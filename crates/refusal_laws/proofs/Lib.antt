@@ -1,0 +1,3 @@
+pub mod BestMaps
+pub mod OtherEvents
+pub mod RefusalLaws
