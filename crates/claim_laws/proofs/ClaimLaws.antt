@@ -41,7 +41,7 @@ use Rattle.scenes.proofs.Worlds.{life_here, state_here}
 use Rattle.scenes.specs.EachRun.{IsRunOf, is_short_run}
 use Rattle.scenes.specs.Events.{IsSound}
 use Rattle.scenes.specs.Scenes.{Scene, scene_of}
-use Rattle.survivor_laws.proofs.OwnersLeft.{HoldsOfSome, IsKnown, both_at, highest_holds, highest_takes, known_next, maps_among, opening_survivors}
+use Rattle.survivor_laws.proofs.OwnersLeft.{HoldsOfSome, IsKnown, each_pair, highest_holds, highest_takes, known_next, maps_among, opening_survivors}
 use Rattle.survivor_laws.proofs.SurvivorEvents.{survivors_kept}
 use Rattle.survivor_laws.specs.SurvivorFacts.{IsNotedAt}
 use Rattle.survivor_laws.specs.SurvivorInvariant.{MapsAndSurvivors}
@@ -101,7 +101,8 @@ module _ (s : Scenario) (recs : List Noted) (k : NodeId) (m : PartMap) where
   highest_is known is_map has low =
       by (highest None (maps_at s recs k)) (highest_takes None (maps_at s recs k) m.top has)
       (highest_holds (λ (x : PartMap). IsUpTo x.top m.top × IsKnown s recs x) None (maps_at s recs k) tt
-      (both_at s recs m.top k low (maps_among s (IsKnown s recs) recs k known)))
+      (each_pair (λ (x : PartMap). IsUpTo x.top m.top) (IsKnown s recs) (maps_at s recs k) low
+      (maps_among s (IsKnown s recs) recs k known)))
     where
       by : (r : Option PartMap) → HasAtLeast m.top r →
           HoldsOfSome (λ (x : PartMap). IsUpTo x.top m.top × IsKnown s recs x) r → r ≡ Some m

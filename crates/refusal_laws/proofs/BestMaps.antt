@@ -1,11 +1,11 @@
 -- The highest map that a survivor of a loss has installed is the highest one that survivors have noted.
-use Rattle.std.proofs.Common.{◌≡◌, ◌++◌, ◌&&◌, ◌||◌, List, [], ◌∷◌, Option, Some, None, Bool, true, false, if◌then◌else◌, not, ℕ, zero, suc, refl, ap, sym, subst, ◌∙◌}
-use Rattle.std.specs.List.{flat_map, list_any}
+use Rattle.std.proofs.Common.{◌≡◌, ◌++◌, ◌&&◌, List, [], ◌∷◌, Option, Some, None, Bool, true, false, if◌then◌else◌, not, ℕ, zero, suc, refl, ap, sym, subst, ◌∙◌}
+use Rattle.std.specs.List.{flat_map}
 use Rattle.std.specs.Prelude.{filter, option_to_list, slice_get}
 use Rattle.std.proofs.lemmas.List.Folds.{list_any-append}
 use Rattle.act_rows.specs.NewNodes.{map_if, opening_map_of}
 use Rattle.claim_laws.proofs.ClaimLaws.{known_all}
-use Rattle.ignite_types.proofs.NameLaws.{same_node_itself, same_node_true, same_top_itself}
+use Rattle.ignite_types.proofs.NameLaws.{same_node_itself, same_top_itself}
 use Rattle.ignite_types.specs.Names.{same_node, same_top}
 use Rattle.ignite_types.specs.declared.names.NodeId.{NodeId}
 use Rattle.ignite_types.specs.declared.names.TopVer.{TopVer}
@@ -24,7 +24,7 @@ use Rattle.scenes.proofs.Sounds.{alive_is, at_part}
 use Rattle.scenes.proofs.Worlds.{life_here, state_here}
 use Rattle.scenes.specs.Events.{IsSound}
 use Rattle.scenes.specs.Scenes.{Scene, scene_of}
-use Rattle.survivor_laws.proofs.OwnersLeft.{HoldsOfSome, IsKnown, has_id, highest_holds, highest_takes, maps_among}
+use Rattle.survivor_laws.proofs.OwnersLeft.{HoldsOfSome, IsKnown, each_pair, has_id, has_version, highest_holds, highest_takes, kept_each, kept_has, maps_among}
 use Rattle.survivor_laws.specs.SurvivorFacts.{IsNotedAt}
 use Rattle.survivor_laws.specs.SurvivorInvariant.{MapsAndSurvivors}
 use Rattle.topology_laws.proofs.Lists.{each_both, each_change}
@@ -38,9 +38,6 @@ use Rattle.tx_model.specs.World.{Part, World, best_map_from, best_map_without, i
 use Rattle.node_state.specs.declared.life.Life.TheVariants as life
 
 -- Two lists of known maps with the same highest one.
-
-abbrev has_version : TopVer → List PartMap → Bool
-has_version top ms = list_any (λ (m : PartMap). same_top m.top top) ms
 
 -- each map of the first list has its version in the second; no map of the second is above the highest one of the first
 same_highest : (s : Scenario) (recs : List Noted) (xs ys : List PartMap) →
@@ -117,41 +114,6 @@ part_has id (q ∷ qs) (suc k) p m there out is =
     list_any-append (λ (x : PartMap). same_top x.top m.top) (maps_of_part id q) (maps_of_parts id qs)
     ∙ or_second (has_version m.top (maps_of_part id q)) (has_version m.top (maps_of_parts id qs))
     (part_has id qs k p m there out is)
-
--- The maps at the nodes that survive.
-
-kept_has : (picks : NodeId → Bool) (ids : List NodeId) (x : NodeId) (f : NodeId → List PartMap) (top : TopVer) →
-    list_any (same_node x) ids ≡ true → picks x ≡ true → has_version top (f x) ≡ true →
-    has_version top (flat_map f (filter picks ids)) ≡ true
-kept_has picks [] x f top some kept has = absurd (cc (some))
-kept_has picks (y ∷ ys) x f top some kept has =
-    by (λ there. kept_has picks ys x f top there kept has) (same_node x y) refl some (picks y) refl
-  where
-    here : same_node x y ≡ true → has_version top (f y ++ flat_map f (filter picks ys)) ≡ true
-    here same = list_any-append (λ (m : PartMap). same_top m.top top) (f y) (flat_map f (filter picks ys))
-        ∙ or_first (has_version top (f y)) (has_version top (flat_map f (filter picks ys)))
-        (ap (λ (n : NodeId). has_version top (f n)) (sym (same_node_true x y same)) ∙ has)
-
-    by : (list_any (same_node x) ys ≡ true → has_version top (flat_map f (filter picks ys)) ≡ true) → (c : Bool) →
-        same_node x y ≡ c → (c || list_any (same_node x) ys) ≡ true → (d : Bool) → picks y ≡ d →
-        has_version top (flat_map f (if d then y ∷ filter picks ys else filter picks ys)) ≡ true
-    by later true same there true pick = here same
-    by later true same there false pick =
-        let me = ap picks (same_node_true x y same) in absurd (cc (me, kept, pick))
-    by later false other there true pick =
-        list_any-append (λ (m : PartMap). same_top m.top top) (f y) (flat_map f (filter picks ys))
-        ∙ or_second (has_version top (f y)) (has_version top (flat_map f (filter picks ys))) (later there)
-    by later false other there false pick = later there
-
-kept_each : (picks : NodeId → Bool) (ids : List NodeId) (f : NodeId → List PartMap) (P : PartMap → Type 0) →
-    ((x : NodeId) → picks x ≡ true → HoldsOfEach P (f x)) → HoldsOfEach P (flat_map f (filter picks ids))
-kept_each picks [] f P all = tt
-kept_each picks (y ∷ ys) f P all = by (picks y) refl (kept_each picks ys f P all)
-  where
-    by : (d : Bool) → picks y ≡ d → HoldsOfEach P (flat_map f (filter picks ys)) →
-        HoldsOfEach P (flat_map f (if d then y ∷ filter picks ys else filter picks ys))
-    by true pick rest = each_both P (f y) (flat_map f (filter picks ys)) (all y pick) rest
-    by false pick rest = rest
 
 -- At a loss.
 
@@ -242,17 +204,12 @@ module _ (s : Scenario) (recs : List Noted) (w : World) (c : LinkInvariant s rec
       (maps_at s recs x)
   node_low x on =
       let two = not_both (same_node x id) (is_lost recs x) on in
-      both (maps_at s recs x) (maps_among s (IsKnown s recs) recs x known)
+      each_pair (IsKnown s recs) (λ (m : PartMap). HasAtLeast m.top (highest None (maps_of_parts id w.parts)))
+      (maps_at s recs x) (maps_among s (IsKnown s recs) recs x known)
       (each_change (λ (m : PartMap). HasAtLeast m.top (sc.state x).installed)
       (λ (m : PartMap). HasAtLeast m.top (highest None (maps_of_parts id w.parts))) (maps_at s recs x)
       (λ m low. by two.0 two.1 (sc.state x).installed refl m low) (noted_low x two.1))
     where
-      both : (ms : List PartMap) → HoldsOfEach (IsKnown s recs) ms →
-          HoldsOfEach (λ (m : PartMap). HasAtLeast m.top (highest None (maps_of_parts id w.parts))) ms →
-          HoldsOfEach (λ (m : PartMap). IsKnown s recs m × HasAtLeast m.top (highest None (maps_of_parts id w.parts))) ms
-      both [] a b = tt
-      both (m ∷ ms) a b = ((a.0, b.0), both ms a.1 b.1)
-
       lives_at : (at : Life) → sc.life x ≡ at → is_lost recs x ≡ false → (m : PartMap) → (sc.state x).installed ≡ Some m →
           sc.life x ≡ life.Alive
       lives_at life.Alive is lives m has = is

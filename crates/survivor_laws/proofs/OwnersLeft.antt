@@ -23,6 +23,7 @@ use Rattle.journal_statements.specs.MapLaws.{has_live_owner, highest_map, live_n
 use Rattle.journal_statements.specs.Noted.{Noted, each_from, is_lost, map_in, map_of_version, maps_installed, noted, recs_of}
 use Rattle.journal_statements.specs.Refusals.{highest, maps_at}
 use Rattle.journal_statements.specs.Topologies.{first_topology}
+use Rattle.link_laws.proofs.Joiners.{not_true}
 use Rattle.link_laws.proofs.Journals.{first_rest}
 use Rattle.link_laws.proofs.Places.{some_is}
 use Rattle.map_laws.proofs.MapKept.{opening_holds}
@@ -259,52 +260,51 @@ has_id s x declared =
     any_get (same_node x) (ids_of s) at.0 x (ap (λ ms. slice_get (node_set [] ms) at.0) (sym (append_none (declared_nodes s)))
     ∙ at.1) (same_node_itself x)
 
--- one that is not lost is among those that are not lost
-live_there : (recs : List Noted) (ids : List NodeId) (x : NodeId) (f : NodeId → List PartMap) (test : PartMap → Bool) →
-    list_any (same_node x) ids ≡ true → is_lost recs x ≡ false → list_any test (f x) ≡ true →
-    list_any test (flat_map f (filter (λ (id : NodeId). not (is_lost recs id)) ids)) ≡ true
-live_there recs [] x f test some lives has = absurd (cc (some))
-live_there recs (y ∷ ys) x f test some lives has = by (λ there. live_there recs ys x f test there lives has)
-    (same_node x y) refl some (is_lost recs y) refl
-  where
-    by : (list_any (same_node x) ys ≡ true → list_any test (flat_map f (filter (λ (id : NodeId). not (is_lost recs id)) ys))
-        ≡ true) → (c : Bool) → same_node x y ≡ c → (c || list_any (same_node x) ys) ≡ true → (d : Bool) → is_lost recs y ≡ d →
-        list_any test (flat_map f (if not d then y ∷ filter (λ (id : NodeId). not (is_lost recs id)) ys else filter
-        (λ (id : NodeId). not (is_lost recs id)) ys)) ≡ true
-    by later true same here true lost = let me = ap (is_lost recs) (same_node_true x y same) in absurd (cc (me, lives, lost))
-    by later true same here false live =
-        list_any-append test (f y) (flat_map f (filter (λ (id : NodeId). not (is_lost recs id)) ys))
-        ∙ or_first (list_any test (f y)) (list_any test (flat_map f (filter (λ (id : NodeId). not (is_lost recs id)) ys)))
-        (ap (λ (n : NodeId). list_any test (f n)) (sym (same_node_true x y same)) ∙ has)
-    by later false other there true lost = later there
-    by later false other there false live =
-        list_any-append test (f y) (flat_map f (filter (λ (id : NodeId). not (is_lost recs id)) ys))
-        ∙ or_second (list_any test (f y)) (list_any test (flat_map f (filter (λ (id : NodeId). not (is_lost recs id)) ys)))
-        (later there)
+abbrev pub has_version : TopVer → List PartMap → Bool
+has_version top ms = list_any (λ (m : PartMap). same_top m.top top) ms
 
-live_each : (recs : List Noted) (ids : List NodeId) (f : NodeId → List PartMap) (P : PartMap → Type 0) →
-    ((x : NodeId) → is_lost recs x ≡ false → HoldsOfEach P (f x)) →
-    HoldsOfEach P (flat_map f (filter (λ (id : NodeId). not (is_lost recs id)) ids))
-live_each recs [] f P all = tt
-live_each recs (y ∷ ys) f P all = by (is_lost recs y) refl (live_each recs ys f P all)
+-- a map of one of the nodes that are picked is among their maps
+pub kept_has : (picks : NodeId → Bool) (ids : List NodeId) (x : NodeId) (f : NodeId → List PartMap) (top : TopVer) →
+    list_any (same_node x) ids ≡ true → picks x ≡ true → has_version top (f x) ≡ true →
+    has_version top (flat_map f (filter picks ids)) ≡ true
+kept_has picks [] x f top some kept has = absurd (cc (some))
+kept_has picks (y ∷ ys) x f top some kept has =
+    by (λ there. kept_has picks ys x f top there kept has) (same_node x y) refl some (picks y) refl
   where
-    by : (d : Bool) → is_lost recs y ≡ d → HoldsOfEach P (flat_map f (filter (λ (id : NodeId). not (is_lost recs id)) ys)) →
-        HoldsOfEach P (flat_map f (if not d then y ∷ filter (λ (id : NodeId). not (is_lost recs id)) ys else filter
-        (λ (id : NodeId). not (is_lost recs id)) ys))
-    by true lost rest = rest
-    by false live rest = each_both P (f y) (flat_map f (filter (λ (id : NodeId). not (is_lost recs id)) ys)) (all y live) rest
+    here : same_node x y ≡ true → has_version top (f y ++ flat_map f (filter picks ys)) ≡ true
+    here same = list_any-append (λ (m : PartMap). same_top m.top top) (f y) (flat_map f (filter picks ys))
+        ∙ or_first (has_version top (f y)) (has_version top (flat_map f (filter picks ys)))
+        (ap (λ (n : NodeId). has_version top (f n)) (sym (same_node_true x y same)) ∙ has)
+
+    by : (list_any (same_node x) ys ≡ true → has_version top (flat_map f (filter picks ys)) ≡ true) → (c : Bool) →
+        same_node x y ≡ c → (c || list_any (same_node x) ys) ≡ true → (d : Bool) → picks y ≡ d →
+        has_version top (flat_map f (if d then y ∷ filter picks ys else filter picks ys)) ≡ true
+    by later true same there true pick = here same
+    by later true same there false pick =
+        let me = ap picks (same_node_true x y same) in absurd (cc (me, kept, pick))
+    by later false other there true pick =
+        list_any-append (λ (m : PartMap). same_top m.top top) (f y) (flat_map f (filter picks ys))
+        ∙ or_second (has_version top (f y)) (has_version top (flat_map f (filter picks ys))) (later there)
+    by later false other there false pick = later there
+
+-- what holds of the maps of each of them
+pub kept_each : (picks : NodeId → Bool) (ids : List NodeId) (f : NodeId → List PartMap) (P : PartMap → Type 0) →
+    ((x : NodeId) → picks x ≡ true → HoldsOfEach P (f x)) → HoldsOfEach P (flat_map f (filter picks ids))
+kept_each picks [] f P all = tt
+kept_each picks (y ∷ ys) f P all = by (picks y) refl (kept_each picks ys f P all)
+  where
+    by : (d : Bool) → picks y ≡ d → HoldsOfEach P (flat_map f (filter picks ys)) →
+        HoldsOfEach P (flat_map f (if d then y ∷ filter picks ys else filter picks ys))
+    by true pick rest = each_both P (f y) (flat_map f (filter picks ys)) (all y pick) rest
+    by false pick rest = rest
+
+-- what two statements say of each is one
+pub each_pair : {A : Type 0} (P Q : A → Type 0) (xs : List A) → HoldsOfEach P xs → HoldsOfEach Q xs →
+    HoldsOfEach (λ x. P x × Q x) xs
+each_pair P Q [] first second = tt
+each_pair P Q (x ∷ xs) first second = ((first.0, second.0), each_pair P Q xs first.1 second.1)
 
 -- what is known of the highest map is the statement
-pub both_at : (s : Scenario) (recs : List Noted) (top : TopVer) (k : NodeId) → HoldsOfEach (λ (m : PartMap). IsUpTo m.top top)
-    (maps_at s recs k) → HoldsOfEach (IsKnown s recs) (maps_at s recs k) →
-    HoldsOfEach (λ (m : PartMap). IsUpTo m.top top × IsKnown s recs m) (maps_at s recs k)
-both_at s recs top k = by (maps_at s recs k)
-  where
-    by : (ms : List PartMap) → HoldsOfEach (λ (m : PartMap). IsUpTo m.top top) ms → HoldsOfEach (IsKnown s recs) ms →
-        HoldsOfEach (λ (m : PartMap). IsUpTo m.top top × IsKnown s recs m) ms
-    by [] a b = tt
-    by (m ∷ ms) a b = ((a.0, b.0), by ms a.1 b.1)
-
 highest_owned : (s : Scenario) (es : List TopoEvent) (recs : List Noted) →
     ((k : ℕ) (x : NodeId) → is_member (topology_after_events s es k).members x ≡ true →
     is_member (declared_nodes s) x ≡ true) → HoldsOfEach (IsKnown s recs) (maps_installed s recs) → HasLiveOwners s es recs
@@ -313,12 +313,15 @@ highest_owned s es recs declared known o =
     let maps = flat_map (maps_at s recs) (live_nodes s recs) in
     let id = has_id s o.at (declared o.place o.at o.member) in
     let high : HasAtLeast o.map.top (highest None maps) =
-    highest_takes None maps o.map.top (live_there recs (ids_of s) o.at (maps_at s recs)
-    (λ (m : PartMap). same_top m.top o.map.top) id o.lives o.has_it) in
+    highest_takes None maps o.map.top (kept_has (λ (x : NodeId). not (is_lost recs x)) (ids_of s) o.at
+    (maps_at s recs) o.map.top
+    id (ap not o.lives) o.has_it) in
     let one : HoldsOfSome (λ (m : PartMap). IsUpTo m.top o.map.top × IsKnown s recs m) (highest None maps) =
     highest_holds (λ (m : PartMap). IsUpTo m.top o.map.top × IsKnown s recs m) None maps tt
-    (live_each recs (ids_of s) (maps_at s recs) (λ (m : PartMap). IsUpTo m.top o.map.top × IsKnown s recs m)
-    (λ k lives. both_at s recs o.map.top k (o.is_highest k lives) (maps_among s (IsKnown s recs) recs k known))) in
+    (kept_each (λ (x : NodeId). not (is_lost recs x)) (ids_of s) (maps_at s recs)
+    (λ (m : PartMap). IsUpTo m.top o.map.top × IsKnown s recs m)
+    (λ k lives. each_pair (λ (m : PartMap). IsUpTo m.top o.map.top) (IsKnown s recs) (maps_at s recs k)
+    (o.is_highest k (not_true (is_lost recs k) lives)) (maps_among s (IsKnown s recs) recs k known))) in
     by (highest None maps) high one
   where
     by : (r : Option PartMap) → HasAtLeast o.map.top r →

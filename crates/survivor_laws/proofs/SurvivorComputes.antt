@@ -25,6 +25,7 @@ use Rattle.journal_statements.specs.Maps.{has_owner, single_in, singles_at}
 use Rattle.journal_statements.specs.Noted.{Noted, is_lost, map_in, map_of_version, maps_installed, noted_by, recs_of}
 use Rattle.journal_statements.specs.Refusals.{maps_at}
 use Rattle.journal_statements.specs.Topologies.{Topology, first_topology, last_topology, topologies_from, topology_after, topology_of}
+use Rattle.link_laws.proofs.Joiners.{not_true}
 use Rattle.link_laws.proofs.Journals.{first_rest}
 use Rattle.link_laws.proofs.Places.{some_is}
 use Rattle.map_laws.proofs.LeavesMaps.{aside, andthen, counts_leaves}
@@ -83,10 +84,6 @@ filter_each test (x ∷ xs) = by (test x) refl (filter_each test xs)
         HoldsOfEach (λ y. test y ≡ true) (if c then x ∷ filter test xs else filter test xs)
     by true is rest = (is, rest)
     by false is rest = rest
-
-not_true : (b : Bool) → not b ≡ true → b ≡ false
-not_true true e = absurd (cc (e))
-not_true false e = refl
 
 -- Maps that a node had installed.
 

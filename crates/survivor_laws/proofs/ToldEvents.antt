@@ -21,6 +21,7 @@ use Rattle.ignite_types.specs.declared.scenario.Scenario.{Scenario}
 use Rattle.ignite_types.specs.declared.scenario.Step.{Step}
 use Rattle.journal_statements.specs.Topologies.{Topology, event_of_planned, event_of_step, events_in_rec, events_of, last_topology, topology_after, topology_events}
 use Rattle.link_laws.proofs.Joiners.{map_none, map_some}
+use Rattle.link_laws.proofs.Joiners.{not_true}
 use Rattle.link_laws.proofs.Journals.{first_rest}
 use Rattle.link_laws.proofs.Runs.{nodes_apart}
 use Rattle.part_model.specs.NextMap.{is_member}
@@ -81,10 +82,6 @@ none_any p (x ∷ xs) none = by (λ e. none_any p xs e) (p x) refl none
         (p x ≡ false) × HoldsOfEach (λ y. p y ≡ false) xs
     by later true is e = absurd (cc (e))
     by later false is e = (is, later e)
-
-not_true : (b : Bool) → not b ≡ true → b ≡ false
-not_true true e = absurd (cc (e))
-not_true false e = refl
 
 -- One flag a number.
 
